@@ -1,0 +1,5 @@
+pub mod Integers
+pub mod Numbers
+pub mod Shares
+pub mod Lines
+pub mod Laws

@@ -1,0 +1,5 @@
+pub mod Scale
+pub mod Correction
+pub mod Refusals
+pub mod Steps
+pub mod Lines
