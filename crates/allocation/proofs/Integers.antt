@@ -1,5 +1,5 @@
 -- Products of integers, spread over sums. Assumes nothing.
-use mathlib.Core.Path.{_≡_, ap, _∙_, sym}
+use mathlib.Core.Path.{_≡_, refl, ap, _∙_, sym}
 use Prim.Native.Nat.{ℕ, zero, suc, _+_, _*_}
 use native.Mathlib.Nat.{mul-add}
 use native.Mathlib.Omega.{arith}
@@ -27,3 +27,9 @@ times-neg t (negsuc n) = sym (negℤ-negℤ _) ∙ ap negℤ (sym (*ℤ-negsuc t
 
 pub times-difference : (t a b : ℤ) → t *ℤ (a -ℤ b) ≡ (t *ℤ a) -ℤ (t *ℤ b)
 times-difference t a b = times-sum t a (negℤ b) ∙ ap (λ z. (t *ℤ a) +ℤ z) (times-neg t b)
+
+pub product-size : (a b : ℤ) → natAbs (a *ℤ b) ≡ natAbs a * natAbs b
+product-size (pos a) (pos b) = refl
+product-size (pos a) (negsuc b) = omega (arith, ints)
+product-size (negsuc a) (pos b) = omega (arith, ints)
+product-size (negsuc a) (negsuc b) = refl

@@ -1,12 +1,12 @@
 -- A line, from its head on. Assumes nothing.
 use mathlib.Core.Path.{_≡_, refl, ap, _∙_, sym, subst}
-use mathlib.Core.List.{List, [], _∷_, _++_, append-nil, append-assoc}
+use mathlib.Core.List.{List, [], _∷_, _++_}
 use Prim.Native.Nat.{ℕ, _+_, _*_, _≤_, _<_}
 use native.Mathlib.Nat.{add-assoc, zero-add, add-zero}
 use native.Mathlib.Omega.{arith}
-use lib.ListN.{length, take, drop, getD, set, length-set}
+use lib.ListN.{length, take, drop, getD, set}
 use lib.IntN.{ℤ, pos, negsuc, _+ℤ_, _-ℤ_, negℤ, natAbs}
-use Rattle.std.proofs.shelf.Lists.{drop-more, drop-all, take-all, take-more-set, drop-set}
+use Rattle.std.proofs.shelf.Lists.{drop-more, drop-all}
 use Rattle.std.proofs.shelf.Signed.{ints}
 use Rattle.std.specs.declared.option.Option.the-variants.{Some, None}
 use Rattle.fault.specs.declared.cause.Direction.{Direction}
@@ -19,6 +19,7 @@ use Rattle.allocation.specs.Correction.{share, correction-of, profiled, correc
 use Rattle.allocation.specs.Scale.{most-weights}
 use Rattle.allocation.specs.Steps.{part, Stepped}
 use Rattle.allocation.specs.Lines.{total, net, shared, divided, got, got-in, weights-refusal}
+use Rattle.allocation.proofs.Along.{along-more, along-end, drop-past-set}
 
 -- t and v are what the first i weights come to
 pub record Counted (line : List Share) (i t : ℕ) (v : ℤ) : Type 0 where
@@ -77,29 +78,21 @@ midway-start q line p e same none o f = (same, subst (λ (k : ℕ). Midway (q .t
 pub midway-fits : (t : ℕ) (r : ℤ) (start line : List Share) (i passed : ℕ) (out : Direction → ℤ) (s : Share) → Midway t r start line i passed out → i < length line → passed + getD line i s .weight ≤ t
 midway-fits t r start line i passed out s h l = omega (arith, h .left, ap total (drop-more line i s l))
 
-drop-past-set : {X : Type 0} (xs : List X) (i : ℕ) (d y : X) → i < length xs → drop (i + 1) (set xs i y) ≡ drop (i + 1) xs
-drop-past-set xs i d y l =
-    let more = drop-more (set xs i y) i d (simp length-set l) in
-    let here = drop-set xs i y l in
-    cc
-
 midway-more : (t : ℕ) (r : ℤ) (start line : List Share) (i passed : ℕ) (out next : Direction → ℤ) (s : Share) (m : ℕ) → Midway t r start line i passed out → i < length line → m ≡ passed + getD line i s .weight
     → ((d : Direction) → next d ≡ out d +ℤ part d (getD line i s .direction) (shared t r passed (getD line i s) .volume))
     → Midway t r start (set line i (shared t r passed (getD line i s))) (i + 1) m next
 midway-more t r start line i passed out next s m h l e n =
     let y = shared t r passed (getD line i s) in
+    let k = passed + getD line i s .weight in
     let cut = drop-more line i s l in
     let after = drop-past-set line i s y l in
-    let rest : divided t r m (drop (i + 1) (set line i y)) ≡ divided t r (passed + getD line i s .weight) (drop (i + 1) line) = ap (λ k. divided t r k (drop (i + 1) (set line i y))) e ∙ ap (divided t r (passed + getD line i s .weight)) after in
-    let whole : divided t r passed (drop i line) ≡ y ∷ divided t r (passed + getD line i s .weight) (drop (i + 1) line) = ap (divided t r passed) cut in
-    record {
-      written =
-          let front = take-more-set line i y l in
-          let joins = append-assoc (take i line) (y ∷ []) (divided t r (passed + getD line i s .weight) (drop (i + 1) line)) in
-          cc (h .written);
+    let rest : divided t r k (drop (i + 1) (set line i y)) ≡ divided t r k (drop (i + 1) line) = ap (divided t r k) after in
+    let whole : divided t r passed (drop i line) ≡ y ∷ divided t r k (drop (i + 1) line) = ap (divided t r passed) cut in
+    subst (λ (n : ℕ). Midway t r start (set line i y) (i + 1) n next) (sym e) (record {
+      written = along-more (λ b x. b + x .weight) (shared t r) _ line i passed s (h .written) l;
       left = omega (arith, h .left, ap total cut, ap total after);
       gathered = λ d. omega (arith, ints, h .gathered d, n d, ap (got-in d) rest, ap (got-in d) whole);
-    }
+    })
 
 pub midway-turn : (q : Split) (start line : List Share) (i : ℕ) (s y : Share) (p n : Running) → p .split ≡ q → Midway (q .total) (q .residual) start line i (p .passed) (given p) → i < length line
     → y ≡ shared (p .split .total) (p .split .residual) (p .passed) (getD line i s)
@@ -118,9 +111,5 @@ midway-turn q start line i s y p n same h l e step =
 pub midway-end : (t : ℕ) (r : ℤ) (start line : List Share) (i passed : ℕ) (out : Direction → ℤ) → Midway t r start line i passed out → length line ≤ i → (line ≡ divided t r 0 start) × ((d : Direction) → out d ≡ got-in d line)
 midway-end t r start line i passed out h l =
     let none = drop-all i line l in
-    let all = take-all i line l in
-    let same : line ≡ divided t r 0 start =
-        let bare = append-nil line in
-        let rest : divided t r passed (drop i line) ≡ [] = ap (divided t r passed) none in
-        cc (h .written) in
+    let same : line ≡ divided t r 0 start = along-end (λ b x. b + x .weight) (shared t r) _ line i passed (h .written) l in
     (same, λ d. omega (arith, ints, h .gathered d, ap (λ xs. got-in d (divided t r passed xs)) none, ap (got-in d) same))

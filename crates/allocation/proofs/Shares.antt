@@ -85,7 +85,7 @@ nothing r FeedIn = (omega (arith, ints, share-none 0 r), zero-*ℤ (pos 0 -ℤ r
 pub near : (t before w : ℕ) (r : ℤ) (d : Direction) → before + w ≤ t → Near t (corrected t r before d w) (exact t r d w)
 near t before w r d h =
     let both : 0 < t → ((pos t *ℤ corrected t r before d w) <ℤ (exact t r d w +ℤ pos t)) × (exact t r d w <ℤ ((pos t *ℤ corrected t r before d w) +ℤ pos t)) =
-        λ (p : 0 < t). rests-near r t _ _ _ _ (mod-lt _ p) (mod-lt _ p) (volume-rest t before w r d) in
+    λ (p : 0 < t). rests-near r t _ _ _ _ (mod-lt _ p) (mod-lt _ p) (volume-rest t before w r d) in
     record {
       above = λ p. both p .0;
       below = λ p. both p .1;

@@ -1,5 +1,9 @@
 pub mod Scale
+pub mod Along
 pub mod Correction
 pub mod Refusals
 pub mod Steps
 pub mod Lines
+pub mod Settling
+pub mod Amounts
+pub mod Worked

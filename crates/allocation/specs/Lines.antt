@@ -17,6 +17,7 @@ use Rattle.fault.specs.declared.cause.Quarter.{Quarter}
 use Rattle.allocation.specs.declared.line.Allocated.{Allocated}
 use Rattle.allocation.specs.declared.line.Posted.{Posted}
 use Rattle.allocation.specs.declared.line.Share.{Share}
+use Rattle.allocation.specs.Along.{along}
 use Rattle.allocation.specs.Correction.{residual-of, correction-of, profiled, corrected, exact, Near}
 use Rattle.allocation.specs.Refusals.{split-refusal}
 use Rattle.allocation.specs.Scale.{most-weights, most-residual}
@@ -42,8 +43,7 @@ shared t r before s = record { direction = s .direction; weight = s .weight; cor
 
 -- the line, divided from where weights before it stand
 abbrev pub divided : ℕ → ℤ → ℕ → List Share → List Share
-divided t r before [] = []
-divided t r before (s ∷ ss) = shared t r before s ∷ divided t r (before + s .weight) ss
+divided t r before ss = along (λ b s. b + s .weight) (shared t r) before ss
 
 -- what the line got in all, and in one direction
 abbrev pub got : List Share → ℤ

@@ -1,75 +1,26 @@
-// The ranges that the subject gives, as types that hold no other number.
+// Prices and priced volumes as types that hold no number out of range, and the bounds that keep every sum exact.
 ghost use mathlib.Core.Path.{_≡_};
 ghost use Prim.Native.Nat.{_≤_, _<_};
 ghost use lib.IntN.{natAbs};
 ghost use Rattle.std.specs.declared.option.Option.the-variants.{Some, None};
-ghost use Rattle.std.specs.declared.result.Result.the-variants.{Ok, Err};
-ghost use Rattle.fault.specs.declared.cause.Fault.the-variants.{LimitPassed};
-ghost use Rattle.fault.specs.declared.cause.Limit.the-variants.{StandingSum as SumLimit};
-ghost use Rattle.allocation.specs.Scale.{whole, most-standing, most-price, most-priced};
-use fault::Fault;
-use fault::Limit;
+ghost use Rattle.allocation.specs.Scale.{most-price, most-priced};
 
-// The largest fraction: ten times the unit.
-pub const WHOLE: u32 = 1_000_000;
-const MOST_STANDING: u64 = 10_000_000_000;
 const MOST_PRICE: u64 = 500_000;
-const MOST_PRICED: u64 = 4_000_000_000;
 
-// The part of a standard year volume that falls into one quarter, as a profile has it.
-#[derive(Clone, Copy, PartialEq, Eq, Debug)]
-pub struct Fraction {
-    parts: u32,
-    ghost within: { parts ≤ whole },
-}
+pub(crate) const MOST_WEIGHTS: u64 = 2_000_000_000;
 
-impl Fraction {
-    pub fn new(parts: u32) -> Option<Fraction>
-        ensures { λ r. ⌜ elim r [ Some f ↦ f .parts ≡ parts | None ↦ whole < parts ] ⌝ }
-    {
-        if parts <= WHOLE {
-            Some(Fraction { parts })
-        } else {
-            None
-        }
-    }
+pub(crate) const MOST_RESIDUAL: u64 = 2_000_000_000;
 
-    pub fn parts(self) -> u32
-        ensures { λ r. ⌜ r ≡ self .parts ⌝ }
-    {
-        self.parts
-    }
-}
+const MOST_PRICED: u64 = MOST_WEIGHTS + MOST_RESIDUAL;
 
-// The standard year volumes of a group's connections in one register, added up, in kWh.
-#[derive(Clone, Copy, PartialEq, Eq, Debug)]
-pub struct StandingSum {
-    kwh: u64,
-    ghost within: { kwh ≤ most-standing },
-}
+pub(crate) const MOST_QUARTERS: u32 = 2_980;
 
-impl StandingSum {
-    pub fn new(kwh: u64) -> Result<StandingSum, Fault>
-        ensures { λ r. ⌜ elim r [ Ok s ↦ s .kwh ≡ kwh | Err e ↦ (e ≡ LimitPassed SumLimit) × (most-standing < kwh) ] ⌝ }
-    {
-        if kwh <= MOST_STANDING {
-            Ok(StandingSum { kwh })
-        } else {
-            Err(Fault::LimitPassed(Limit::StandingSum))
-        }
-    }
-
-    pub fn kwh(self) -> u64
-        ensures { λ r. ⌜ r ≡ self .kwh ⌝ }
-    {
-        self.kwh
-    }
-}
+pub(crate) const MOST_VOLUME: u64 = 13_000_000_000_000;
 
 // A price, in cents per MWh.
 #[derive(Clone, Copy, PartialEq, Eq, Debug)]
 pub struct Price {
-    cents: i64,
+    pub(crate) cents: i64,
     ghost within: { natAbs cents ≤ most-price },
 }
 

@@ -6,6 +6,8 @@ ghost use Rattle.std.specs.declared.result.Result.the-variants.{Ok, Err};
 ghost use Rattle.allocation.specs.Correction.{signed, share, correction-of, profiled, exact, Near};
 ghost use Rattle.allocation.specs.Refusals.{Decided, split-refusal, step-refusal, end-refusal};
 ghost use Rattle.allocation.specs.Steps.{Stepped, part};
+use crate::range::MOST_RESIDUAL;
+use crate::range::MOST_WEIGHTS;
 use crate::range::PricedVolume;
 use crate::split::Corrected;
 use crate::split::Running;
@@ -14,9 +16,6 @@ use fault::Direction;
 use fault::Fault;
 use fault::Limit;
 use fault::Quarter;
-
-const MOST_WEIGHTS: u64 = 2_000_000_000;
-const MOST_RESIDUAL: u64 = 2_000_000_000;
 
 fn with_sign(size: u64, sign: i64) -> i64
     requires { ⌜ size ≤ 2000000000 ⌝ }
@@ -93,7 +92,10 @@ impl Split {
         if self.total == 0 {
             return 0;
         }
-        with_sign(self.residual.unsigned_abs() * passed / self.total, self.residual)
+        with_sign(
+            self.residual.unsigned_abs() * passed / self.total,
+            self.residual,
+        )
     }
 
     // What one weight gains.

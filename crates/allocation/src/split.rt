@@ -5,7 +5,6 @@ ghost use lib.IntN.{pos, natAbs};
 ghost use Rattle.allocation.specs.Scale.{most-weights, most-residual};
 ghost use Rattle.allocation.specs.Correction.{signed, share};
 
-
 // The total T of a quarter's weights and its residual R, which some weight carries.
 #[derive(Clone, Copy, PartialEq, Eq, Debug)]
 pub struct Split {

@@ -28,5 +28,5 @@ returns c =
     let whole : SFits w64 (c .with-sign .result) = search needs in
     let size = c .unsigned-abs .ensures .value ∙ ap natAbs (toZ-ofZ w64 _ fits) in
     let value : c .with-sign .result ≡ share (self .total) (self .residual) (c .args .passed) =
-        rw (toZ-ofZ w64 _ fits, size) at (c .with-sign .ensures) in
+    rw (toZ-ofZ w64 _ fits, size) at (c .with-sign .ensures) in
     rw (toZ-ofZ w64 _ whole) (record { value = value; bound = rw value (omega (arith, share-within (self .total) (c .args .passed) (self .residual) (c .pre), self .small)) })

@@ -7,10 +7,13 @@ ghost use Rattle.allocation.specs.Correction.{profiled, residual-of};
 ghost use Rattle.allocation.specs.Lines.{total, net, residual, shared, divided, got-in, priced, weights-refusal, residual-refusal, quarter-refusal, Divides};
 ghost use Rattle.allocation.specs.Refusals.{Decided};
 ghost use Rattle.allocation.specs.Steps.{Stepped};
+use crate::exact::wide_sum;
 use crate::line::Allocated;
 use crate::line::Posted;
 use crate::line::Share;
 use crate::line::Weights;
+use crate::range::MOST_RESIDUAL;
+use crate::range::MOST_WEIGHTS;
 use crate::range::PricedVolume;
 use crate::split::Running;
 use crate::split::Split;
@@ -18,9 +21,6 @@ use fault::Direction;
 use fault::Fault;
 use fault::Limit;
 use fault::Quarter;
-
-const MOST_WEIGHTS: u64 = 2_000_000_000;
-const MOST_RESIDUAL: u128 = 2_000_000_000;
 
 impl Share {
     // A weight that has got nothing yet.
@@ -80,20 +80,11 @@ impl Weights {
     }
 }
 
-// A sum that no four volumes can take out of its type.
-fn wide_sum(sum: i128, volume: i64) -> i128
-    requires { ⌜ natAbs sum ≤ 2 ^ 80 ⌝ }
-    ensures value { λ r. ⌜ r ≡ sum +ℤ volume ⌝ }
-    ensures bound { λ r. ⌜ natAbs r ≤ natAbs sum + 2 ^ 63 ⌝ }
-{
-    sum + volume as i128
-}
-
 // What is left, with the other sign, within the limit of a residual.
 fn opposite(left: i128) -> Result<i64, Fault>
     ensures { λ r. ⌜ Decided (residual-refusal (negℤ left)) r (λ x. x ≡ negℤ left) ⌝ }
 {
-    if left.unsigned_abs() > MOST_RESIDUAL {
+    if left.unsigned_abs() > MOST_RESIDUAL as u128 {
         return Err(Fault::LimitPassed(Limit::Residual));
     }
     Ok((-left) as i64)

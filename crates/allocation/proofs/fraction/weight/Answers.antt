@@ -3,7 +3,7 @@ use Prim.Native.Nat.{_*_, _≤_}
 use native.Mathlib.Omega.{arith}
 use Rattle.allocation.specs.Scale.{weight-of}
 use Rattle.allocation.proofs.Numbers.{product-within}
-use Rattle.allocation.proofs.weight.weight.Needs as need
+use Rattle.allocation.proofs.fraction.weight.Needs as need
 
 pub returns : need.returns
 unfolding weight-of

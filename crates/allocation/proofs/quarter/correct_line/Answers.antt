@@ -6,7 +6,7 @@ use lib.ListN.{length}
 use Rattle.fault.specs.declared.cause.Direction.the-variants.{Offtake, FeedIn}
 use Rattle.allocation.specs.Lines.{divided, got-in}
 use Rattle.allocation.proofs.Lines.{midway-start, midway-fits, midway-turn, midway-end}
-use Rattle.allocation.proofs.allocate.correct_line.Needs as need
+use Rattle.allocation.proofs.quarter.correct_line.Needs as need
 
 pub loop-share-holds : need.loop-share-holds
 loop-share-holds c =

@@ -1,6 +1,6 @@
 use mathlib.Core.Path.{_≡_}
 use Rattle.allocation.proofs.Lines.{Midway, given}
-use Rattle.allocation.proofs.allocate.correct_line.Given as loop
+use Rattle.allocation.proofs.quarter.correct_line.Given as loop
 
 abbrev pub Inv-loop-share : loop.InvT-loop-share
 Inv-loop-share l =

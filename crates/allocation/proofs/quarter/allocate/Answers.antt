@@ -8,7 +8,7 @@ use Rattle.allocation.specs.Correction.{residual-of}
 use Rattle.allocation.specs.Lines.{total, net, residual}
 use Rattle.allocation.specs.Refusals.{split-refusal}
 use Rattle.allocation.proofs.Laws.{divides}
-use Rattle.allocation.proofs.allocate.allocate.Needs as need
+use Rattle.allocation.proofs.quarter.allocate.Needs as need
 
 pub returns : need.returns
 returns c =
