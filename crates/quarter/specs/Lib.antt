@@ -1,0 +1,4 @@
+pub mod Bounds
+pub mod Postings
+pub mod Rows
+pub mod Reports
