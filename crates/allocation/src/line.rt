@@ -1,4 +1,5 @@
 // A quarter's weights in their line, and what a quarter's division comes to.
+ghost use mathlib.Core.Path.{_≡_};
 ghost use Prim.Native.Nat.{_≤_};
 ghost use lib.IntN.{natAbs};
 ghost use Rattle.allocation.specs.Scale.{most-weights};
@@ -25,6 +26,22 @@ pub struct Weights {
     pub(crate) net: i64,
     ghost few: { total ≤ most-weights },
     ghost within: { natAbs net ≤ total },
+}
+
+impl Weights {
+    // T
+    pub fn total(self) -> u64
+        ensures { λ r. ⌜ r ≡ self .total ⌝ }
+    {
+        self.total
+    }
+
+    // V
+    pub fn net(self) -> i64
+        ensures { λ r. ⌜ r ≡ self .net ⌝ }
+    {
+        self.net
+    }
 }
 
 // The nets X, M and L of what was exchanged with other grids, measured and lost in a quarter, in Wh; into the area is positive.

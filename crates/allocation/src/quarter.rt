@@ -64,20 +64,6 @@ impl Weights {
         }
         Ok(weights)
     }
-
-    // T
-    pub fn total(self) -> u64
-        ensures { λ r. ⌜ r ≡ self .total ⌝ }
-    {
-        self.total
-    }
-
-    // V
-    pub fn net(self) -> i64
-        ensures { λ r. ⌜ r ≡ self .net ⌝ }
-    {
-        self.net
-    }
 }
 
 // What is left, with the other sign, within the limit of a residual.

@@ -69,20 +69,6 @@ impl Split {
         Ok(Split { total, residual })
     }
 
-    // T
-    pub fn total(self) -> u64
-        ensures { λ r. ⌜ r ≡ self .total ⌝ }
-    {
-        self.total
-    }
-
-    // R
-    pub fn residual(self) -> i64
-        ensures { λ r. ⌜ r ≡ self .residual ⌝ }
-    {
-        self.residual
-    }
-
     // F: what the weights up to W carry of the residual.
     fn share(self, passed: u64) -> i64
         requires { ⌜ passed ≤ self .total ⌝ }

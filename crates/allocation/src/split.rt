@@ -15,6 +15,22 @@ pub struct Split {
     ghost carried: { total ≡ 0 → residual ≡ pos 0 },
 }
 
+impl Split {
+    // T
+    pub fn total(self) -> u64
+        ensures { λ r. ⌜ r ≡ self .total ⌝ }
+    {
+        self.total
+    }
+
+    // R
+    pub fn residual(self) -> i64
+        ensures { λ r. ⌜ r ≡ self .residual ⌝ }
+    {
+        self.residual
+    }
+}
+
 // A split on its way along the line: the weight W that it has passed, and what offtake and feed-in have got.
 #[derive(Clone, Copy, PartialEq, Eq, Debug)]
 pub struct Running {

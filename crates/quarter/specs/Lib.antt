@@ -2,3 +2,4 @@ pub mod Bounds
 pub mod Postings
 pub mod Rows
 pub mod Reports
+pub mod Words

@@ -109,7 +109,11 @@ fn line_of(heap: Global, rows: &[Row]) -> Result<Vec<Share>, AllocError>
 fn report_of(heap: Global, input: Input) -> Result<Report, Stop>
     ensures { λ r. ⌜ made r Booked ⌝ }
 {
-    let Input { postings, mut rows, lines } = input;
+    let Input {
+        postings,
+        mut rows,
+        lines,
+    } = input;
     rows.sort();
     check_rising(rows.as_slice())?;
     let mut line = line_of(heap, rows.as_slice())?;

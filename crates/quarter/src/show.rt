@@ -37,11 +37,18 @@ fn write_share<W: fmt::Write>(f: &mut fmt::Formatter<W>, row: &Row, share: &Shar
     let weight = share.weight;
     let correction = share.correction;
     let volume = share.volume;
-    writeln!(f, "{brp:>5} {supplier:>8} {class:>5}  {direction}  {weight:>15} {correction:>13} {volume:>13}")
+    writeln!(
+        f,
+        "{brp:>5} {supplier:>8} {class:>5}  {direction}  {weight:>15} {correction:>13} {volume:>13}"
+    )
 }
 
 // Two shares to a row.
-fn write_line<W: fmt::Write>(f: &mut fmt::Formatter<W>, rows: &[Row], line: &[Share]) -> fmt::Result {
+fn write_line<W: fmt::Write>(
+    f: &mut fmt::Formatter<W>,
+    rows: &[Row],
+    line: &[Share],
+) -> fmt::Result {
     for (i, share) in line.iter().enumerate() {
         if let Some(row) = rows.get(i / 2) {
             write_share(f, row, share)?;
@@ -61,10 +68,19 @@ fn all_volumes(line: &[Share]) -> i128 {
 
 pub impl fmt::Display for Report as ReportDisplay {
     fn fmt<W: fmt::Write>(&self, f: &mut fmt::Formatter<W>) -> fmt::Result {
-        writeln!(f, "One quarter-hour in Wh; into the area is positive, out of it negative.")?;
-        writeln!(f, "weight: what the profile gave; allocated: what the group got.")?;
+        writeln!(
+            f,
+            "One quarter-hour in Wh; into the area is positive, out of it negative."
+        )?;
+        writeln!(
+            f,
+            "weight: what the profile gave; allocated: what the group got."
+        )?;
         writeln!(f, "")?;
-        writeln!(f, "  BRP supplier class  direction        weight    correction     allocated")?;
+        writeln!(
+            f,
+            "  BRP supplier class  direction        weight    correction     allocated"
+        )?;
         write_line(f, self.rows.as_slice(), self.line.as_slice())?;
         writeln!(f, "")?;
         write_totals(f, self)
@@ -83,7 +99,10 @@ fn write_totals<W: fmt::Write>(f: &mut fmt::Formatter<W>, report: &Report) -> fm
     let residual = split.residual();
     let factor = Factor(split);
     let allocated = all_volumes(report.line.as_slice());
-    let left = allocated.saturating_add(exchange as i128).saturating_add(measured as i128).saturating_add(losses as i128);
+    let left = allocated
+        .saturating_add(exchange as i128)
+        .saturating_add(measured as i128)
+        .saturating_add(losses as i128);
     writeln!(f, "X    exchange            {exchange:>14}")?;
     writeln!(f, "M    measured            {measured:>14}")?;
     writeln!(f, "L    losses              {losses:>14}")?;

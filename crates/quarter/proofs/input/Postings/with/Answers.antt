@@ -35,10 +35,12 @@ returns c =
     let a : SFits w64 (c .counted .result) = search needs in
     let b : SFits w64 (c .counted-2 .result) = search needs in
     let d : SFits w64 (c .counted-3 .result) = search needs in
-    let volume = toZ-ofZ w64 _ v ∙ c .signed-volume .ensures in
-    (search needs, record {
-      exchange = toZ-ofZ w64 _ a ∙ (rw (toZ-ofZ w64 _ x, volume) at (c .counted .ensures));
-      measured = toZ-ofZ w64 _ b ∙ (rw (toZ-ofZ w64 _ m, volume) at (c .counted-2 .ensures));
-      losses = toZ-ofZ w64 _ d ∙ (rw (toZ-ofZ w64 _ l, volume) at (c .counted-3 .ensures));
-      gross = refl;
-    })
+    let volume = toZ-ofZ w64 _ v ∙ c .signed-volume .ensures in (
+      search needs,
+      record {
+        exchange = toZ-ofZ w64 _ a ∙ (rw (toZ-ofZ w64 _ x, volume) at (c .counted .ensures));
+        measured = toZ-ofZ w64 _ b ∙ (rw (toZ-ofZ w64 _ m, volume) at (c .counted-2 .ensures));
+        losses = toZ-ofZ w64 _ d ∙ (rw (toZ-ofZ w64 _ l, volume) at (c .counted-3 .ensures));
+        gross = refl;
+      },
+    )
