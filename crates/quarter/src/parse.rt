@@ -120,7 +120,6 @@ fn item(line: usize, words: &[&str]) -> Result<Item, Reason> {
     match words {
         [] => Ok(Item::Nothing),
         [first, ..] if first.starts_with('#') => Ok(Item::Nothing),
-        [net, way, wh] => posting_line(net, way, wh),
         ["group", brp, supplier, class, "weights", offtake, feed_in] => {
             let row = group(line, brp, supplier, class)?;
             Ok(Item::Group(weights_line(row, offtake, feed_in)?))
@@ -142,6 +141,9 @@ fn item(line: usize, words: &[&str]) -> Result<Item, Reason> {
             let feed_in = profiled(feed_in, 7, feed_in_sum, 10)?;
             Ok(Item::Group(weighed(row, offtake, feed_in)))
         }
+        ["group", ..] => Err(Reason::WrongForm),
+        [net, way, wh] => posting_line(net, way, wh),
+        ["exchange" | "measured" | "loss", ..] => Err(Reason::WrongForm),
         _ => Err(Reason::UnknownWord),
     }
 }

@@ -7,10 +7,10 @@ use std::fmt;
 
 #[derive(Clone, Copy)]
 pub enum Reason {
-    // a word that no line begins with, or that does not belong there
+    // a word that no line has at this place
     UnknownWord,
-    // the line has fewer or more words than its kind
-    WordCount,
+    // too few words for a line of this kind, or too many, or others
+    WrongForm,
     // the word at this place is no whole number
     NotANumber(u8),
     // the number at this place is outside its range
@@ -57,7 +57,7 @@ pub impl fmt::Display for Reason as ReasonDisplay {
     fn fmt<W: fmt::Write>(&self, f: &mut fmt::Formatter<W>) -> fmt::Result {
         match *self {
             Reason::UnknownWord => write!(f, "unknown word"),
-            Reason::WordCount => write!(f, "too few or too many words"),
+            Reason::WrongForm => write!(f, "these words make no line of this kind"),
             Reason::NotANumber(word) => write!(f, "word {word} is no whole number"),
             Reason::OutOfRange(word) => write!(f, "word {word} is out of range"),
             Reason::GroupTwice => write!(f, "this group was given on an earlier line"),
