@@ -7,7 +7,7 @@ ghost use lib.ListN.{length, getD};
 ghost use Rattle.std.specs.declared.result.Result.the-variants.{Ok, Err};
 ghost use Rattle.std.specs.Of.Vec.{vec-items};
 ghost use Rattle.std.specs.Vec.{made};
-ghost use Rattle.quarter.specs.Reports.{Booked};
+ghost use Rattle.quarter.specs.Reports.{Booked, Noted, Of};
 ghost use Rattle.quarter.specs.Rows.{before, Rising, line-of};
 use crate::input::Input;
 use crate::input::Item;
@@ -30,7 +30,9 @@ use std::alloc::AllocError;
 use std::alloc::Global;
 
 // Takes in what one line says.
-fn note(input: &mut Input, item: Item) -> Result<(), Stop> {
+fn note(input: &mut Input, item: Item) -> Result<(), Stop>
+    ensures { λ r. ⌜ made r (λ _. Noted (now (input .entry)) item (now (input .exit))) ⌝ }
+{
     match item {
         Item::Nothing => Ok(()),
         Item::Posting(net, way, wh) => match input.postings.with(net, way, wh) {
@@ -107,7 +109,8 @@ fn line_of(heap: Global, rows: &[Row]) -> Result<Vec<Share>, AllocError>
 
 // Divides what was read.
 fn report_of(heap: Global, input: Input) -> Result<Report, Stop>
-    ensures { λ r. ⌜ made r Booked ⌝ }
+    ensures booked { λ r. ⌜ made r Booked ⌝ }
+    ensures whole { λ r. ⌜ made r (Of input) ⌝ }
 {
     let Input {
         postings,
