@@ -5,19 +5,10 @@ use lib.Chars.{codes}
 use Rattle.std.specs.Written.{decimal}
 use Rattle.fault.specs.declared.cause.Fault.{Fault}
 use Rattle.fault.specs.declared.cause.Fault.the-variants.{OutOfRange, BadCode, CodePresent, NotEnrolled, StandTooLarge, NoPlace, MonthFull, MonthUnfinished, NotRead, FractionAbsent, ForeignTables, LimitPassed, NothingToShare, PageTooShort, NotAdmitted, UnknownKind, CutEntry}
-use Rattle.fault.specs.declared.cause.Limit.{Limit}
 use Rattle.fault.specs.declared.cause.Limit.the-variants.{Weights, Residual, Postings, StandingSum, Advances, Volume}
 use Rattle.fault.specs.declared.cause.TableKind.{TableKind}
 use Rattle.fault.specs.declared.cause.TableKind.the-variants.{Connections, Groups}
 use Rattle.fault.specs.Values.{register-number}
-
-unfoldable pub limit-words : Limit → List ℕ
-limit-words Weights = codes "limit 1, weights above 2,000,000,000 Wh"
-limit-words Residual = codes "limit 2, residual above 2,000,000,000 Wh"
-limit-words Postings = codes "limit 3, postings above 4,000,000,000 Wh"
-limit-words StandingSum = codes "limit 4, standing sum above 10,000,000,000 kWh"
-limit-words Advances = codes "limit 5, advances above 1,000,000,000,000 Wh"
-limit-words Volume = codes "limit 6, volume above 13,000,000,000,000 Wh"
 
 abbrev pub table-words : TableKind → List ℕ
 table-words Connections = codes "connection"
@@ -35,7 +26,12 @@ fault-words (MonthUnfinished quarter) = codes "the month has only " ++ (decimal 
 fault-words (NotRead code) = codes "connection " ++ (decimal (code .0) ++ codes " is not read this quarter")
 fault-words (FractionAbsent class direction quarter) = codes "no fraction for class " ++ (decimal class ++ (codes ", direction " ++ (decimal direction ++ (codes ", quarter " ++ decimal (quarter .0)))))
 fault-words ForeignTables = codes "the tables do not belong to this book"
-fault-words (LimitPassed limit) = codes "passes " ++ limit-words limit
+fault-words (LimitPassed Weights) = codes "limit 1: weights"
+fault-words (LimitPassed Residual) = codes "limit 2: residual"
+fault-words (LimitPassed Postings) = codes "limit 3: postings"
+fault-words (LimitPassed StandingSum) = codes "limit 4: standing sum"
+fault-words (LimitPassed Advances) = codes "limit 5: advances"
+fault-words (LimitPassed Volume) = codes "limit 6: volume"
 fault-words (NothingToShare quarter) = codes "quarter " ++ (decimal (quarter .0) ++ codes " has a residual, no weights")
 fault-words (PageTooShort length) = codes "the page needs " ++ (decimal (length .0) ++ codes " bytes of memory")
 fault-words (NotAdmitted place) = codes "the entry at byte " ++ (decimal (place .0) ++ codes " is not admitted now")

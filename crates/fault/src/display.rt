@@ -1,27 +1,11 @@
 // Faults in plain words, for people.
 ghost use mathlib.Core.Path.{_≡_};
 ghost use Rattle.std.specs.declared.option.Option.the-variants.{Some};
-ghost use Rattle.fault.specs.Words.{fault-words, limit-words, table-words};
+ghost use Rattle.fault.specs.Words.{fault-words, table-words};
 use crate::cause::Fault;
 use crate::cause::Limit;
 use crate::cause::TableKind;
 use std::fmt;
-
-impl Limit {
-    // What passed it.
-    pub fn words(self) -> &'static str
-        ensures { λ r. ⌜ now r ≡ limit-words self ⌝ }
-    {
-        match self {
-            Limit::Weights => "limit 1, weights above 2,000,000,000 Wh",
-            Limit::Residual => "limit 2, residual above 2,000,000,000 Wh",
-            Limit::Postings => "limit 3, postings above 4,000,000,000 Wh",
-            Limit::StandingSum => "limit 4, standing sum above 10,000,000,000 kWh",
-            Limit::Advances => "limit 5, advances above 1,000,000,000,000 Wh",
-            Limit::Volume => "limit 6, volume above 13,000,000,000,000 Wh",
-        }
-    }
-}
 
 impl TableKind {
     // What its rows are.
@@ -87,10 +71,12 @@ pub impl fmt::Display for Fault as FaultDisplay {
                 )
             }
             Fault::ForeignTables => write!(f, "the tables do not belong to this book"),
-            Fault::LimitPassed(limit) => {
-                let words = limit.words();
-                write!(f, "passes {words}")
-            }
+            Fault::LimitPassed(Limit::Weights) => write!(f, "limit 1: weights"),
+            Fault::LimitPassed(Limit::Residual) => write!(f, "limit 2: residual"),
+            Fault::LimitPassed(Limit::Postings) => write!(f, "limit 3: postings"),
+            Fault::LimitPassed(Limit::StandingSum) => write!(f, "limit 4: standing sum"),
+            Fault::LimitPassed(Limit::Advances) => write!(f, "limit 5: advances"),
+            Fault::LimitPassed(Limit::Volume) => write!(f, "limit 6: volume"),
             Fault::NothingToShare(quarter) => {
                 let q = quarter.0;
                 write!(f, "quarter {q} has a residual, no weights")
