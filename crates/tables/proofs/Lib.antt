@@ -1,0 +1,4 @@
+pub mod Finding
+mod Memory
+pub mod Changes
+mod Outcomes
