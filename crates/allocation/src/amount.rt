@@ -2,6 +2,8 @@
 ghost use mathlib.Core.Path.{_≡_};
 ghost use Prim.Native.Nat.{_+_, _*_, _^_, _≤_, _<_};
 ghost use lib.IntN.{pos, natAbs, _+ℤ_, _-ℤ_, _*ℤ_};
+ghost use lib.Signed.{_<ℤ_};
+ghost use Rattle.std.specs.Numbers.{divEuclid};
 ghost use Rattle.std.specs.declared.option.Option.the-variants.{Some, None};
 ghost use Rattle.std.specs.declared.result.Result.the-variants.{Ok, Err};
 ghost use Rattle.allocation.specs.Refusals.{Decided};
@@ -32,13 +34,21 @@ fn worth(priced: u64, cents: i64) -> i64
     product(priced as i64, cents)
 }
 
-// Rounded down, for a positive divisor.
+// A quotient rounded down, towards minus infinity.
+fn floored(dividend: i64, divisor: i64) -> i64
+    requires { ⌜ pos 0 <ℤ divisor ⌝ }
+    ensures { λ r. ⌜ r ≡ divEuclid dividend divisor ⌝ }
+{
+    dividend.div_euclid(divisor)
+}
+
+// The same by an unsigned divisor.
 fn floor_of(dividend: i64, divisor: u64) -> i64
     requires some { ⌜ 0 < divisor ⌝ }
     requires few { ⌜ divisor < 2 ^ 63 ⌝ }
     ensures { λ r. ⌜ r ≡ floor dividend divisor ⌝ }
 {
-    dividend.div_euclid(divisor as i64)
+    floored(dividend, divisor as i64)
 }
 
 impl PriceSums {

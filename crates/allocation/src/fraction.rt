@@ -66,11 +66,21 @@ impl StandingSum {
     }
 }
 
-// What the profile gives a group in one direction of a quarter, in Wh. A half is rounded up.
+// Parts of watt-hours, to the nearest watt-hour; a half is rounded up.
+fn rounded(parts: u64) -> u64
+    requires { ⌜ parts ≤ 10000000000000000 ⌝ }
+    ensures value { λ r. ⌜ r ≡ (parts + unit / 2) / unit ⌝ }
+    ensures nearest { λ r. ⌜ (r * unit ≤ parts + unit / 2) × (parts + unit / 2 < (r + 1) * unit) ⌝ }
+    ensures bound { λ r. ⌜ r ≤ 100000000000 ⌝ }
+{
+    (parts + UNIT / 2) / UNIT
+}
+
+// What the profile gives a group in one direction of a quarter, in Wh.
 pub fn weight(fraction: Fraction, sum: StandingSum) -> u64
     ensures value { λ r. ⌜ r ≡ weight-of (fraction .parts) (sum .kwh) ⌝ }
     ensures nearest { λ r. ⌜ (r * unit ≤ fraction .parts * sum .kwh + unit / 2) × (fraction .parts * sum .kwh + unit / 2 < (r + 1) * unit) ⌝ }
     ensures bound { λ r. ⌜ r ≤ 100000000000 ⌝ }
 {
-    (fraction.parts() as u64 * sum.kwh() + UNIT / 2) / UNIT
+    rounded(fraction.parts() as u64 * sum.kwh())
 }

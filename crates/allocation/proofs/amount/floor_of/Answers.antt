@@ -10,5 +10,5 @@ use Rattle.allocation.proofs.amount.floor_of.Needs as need
 
 pub returns : need.returns
 returns c =
-    let fits : SFits w64 (c .div-euclid .result) = search needs in
-    toZ-ofZ w64 _ fits ∙ (rw (toZ-ofZ w64 _ (c .fits .dividend), toZ-pos w64 _ (c .pre .few)) at (c .div-euclid .ensures))
+    let fits : SFits w64 (c .floored .result) = search needs in
+    toZ-ofZ w64 _ fits ∙ (rw (toZ-ofZ w64 _ (c .fits .dividend), toZ-pos w64 _ (c .pre .few)) at (c .floored .ensures))
