@@ -23,7 +23,7 @@ pub record Floor (z : ℤ) (n : ℕ) (q : ℤ) : Type 0 where
   pub high : z <ℤ ((pos n *ℤ q) +ℤ pos n)
 
 -- P: the sum of D × price by the sum of D, 0 without D
-unfoldable pub price-of : ℤ → ℕ → ℤ
+abbrev pub price-of : ℤ → ℕ → ℤ
 price-of value volume = cond (eqb volume 0) (pos 0) (floor value volume)
 
 -- G(S): S at the price P, in cents

@@ -9,7 +9,7 @@ ghost use Rattle.std.specs.declared.result.Result.the-variants.{Ok, Err};
 ghost use Rattle.allocation.specs.Refusals.{Decided};
 ghost use Rattle.allocation.specs.Scale.{most-quarters};
 ghost use Rattle.allocation.specs.Settling.{floor, Floor, price-of, value-at, amount-of, total-refusal, Cent};
-ghost use Rattle.allocation.specs.Amounts.{priced-at, settled, totals-refusal, Settles};
+ghost use Rattle.allocation.specs.Amounts.{priced-at, totals-refusal, Settles};
 use crate::exact::product;
 use crate::exact::wide_sum;
 use crate::range::MOST_QUARTERS;
@@ -51,6 +51,17 @@ fn floor_of(dividend: i64, divisor: u64) -> i64
     floored(dividend, divisor as i64)
 }
 
+// The mean of a period that has volume.
+fn weighted(sums: PriceSums) -> Price
+    requires { ⌜ 0 < sums .volume ⌝ }
+    ensures value { λ r. ⌜ r .cents ≡ price-of (sums .value) (sums .volume) ⌝ }
+    ensures floor { λ r. ⌜ Floor (sums .value) (sums .volume) (r .cents) ⌝ }
+{
+    Price {
+        cents: floor_of(sums.value, sums.volume),
+    }
+}
+
 impl PriceSums {
     // A period without quarters.
     pub fn none() -> PriceSums
@@ -88,9 +99,7 @@ impl PriceSums {
         if self.volume == 0 {
             return Price { cents: 0 };
         }
-        Price {
-            cents: floor_of(self.value, self.volume),
-        }
+        weighted(self)
     }
 }
 
@@ -180,7 +189,7 @@ pub fn amounts(line: &mut [Reconciled], price: Price) -> Result<(), Fault>
 // Gives every volume its amount, where every running total is within its limit.
 fn price_line(line: &mut [Reconciled], price: Price)
     requires { ⌜ totals-refusal (pos 0) (now line) ≡ None ⌝ }
-    ensures { λ _. ⌜ now (line .exit) ≡ settled (price .cents) (pos 0) (now (line .entry)) ⌝ }
+    ensures { λ _. ⌜ Settles (price .cents) (now (line .entry)) (now (line .exit)) ⌝ }
 {
     let mut settling = Settling::new(price);
     for one in line.iter_mut() {

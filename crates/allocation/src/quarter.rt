@@ -5,7 +5,7 @@ ghost use lib.IntN.{pos, natAbs, negℤ, _+ℤ_};
 ghost use Rattle.std.specs.declared.result.Result.the-variants.{Ok, Err};
 ghost use Rattle.allocation.specs.Correction.{profiled, residual-of};
 ghost use Rattle.allocation.specs.Lines.{total, net, residual, shared, divided, got-in, priced, weights-refusal, residual-refusal, quarter-refusal, Divides};
-ghost use Rattle.allocation.specs.Refusals.{Decided};
+ghost use Rattle.allocation.specs.Refusals.{Decided, split-refusal};
 ghost use Rattle.allocation.specs.Steps.{Stepped};
 use crate::exact::wide_sum;
 use crate::line::Allocated;
@@ -112,18 +112,33 @@ fn correct_line(line: &mut [Share], split: Split) -> PricedVolume
     running.priced()
 }
 
+// T and R of a quarter, within their limits, with R carried by some weight.
+fn split_of(weights: Weights, posted: Posted, quarter: Quarter) -> Result<Split, Fault>
+    ensures { λ r. ⌜ Decided (split-refusal (weights .total) (residual-of (posted .exchange) (posted .measured) (weights .net) (posted .losses)) quarter) r (λ s. (s .total ≡ weights .total) × (s .residual ≡ residual-of (posted .exchange) (posted .measured) (weights .net) (posted .losses))) ⌝ }
+{
+    let residual = posted.residual(weights.net)?;
+    Split::new(weights.total, residual, quarter)
+}
+
+// Gives the line its corrections, and tells what they come to: a divided quarter, for all postings of which the split has the residual.
+fn correct_quarter(line: &mut [Share], weights: Weights, split: Split) -> Allocated
+    requires { ⌜ total (now line) ≡ split .total ⌝ }
+    ensures { λ a. ⌜ ((p : Posted) → weights .net ≡ net (now (line .entry)) → split .residual ≡ residual p (now (line .entry)) → Divides p (now (line .entry)) (now (line .exit)) a) ⌝ }
+{
+    let priced = correct_line(line, split);
+    Allocated {
+        net: weights.net,
+        split,
+        priced,
+    }
+}
+
 // Divides one quarter. The shares of the line get their corrections and volumes; a refusal leaves the line as it was.
 pub fn allocate(line: &mut [Share], posted: Posted, quarter: Quarter) -> Result<Allocated, Fault>
     ensures answer { λ r. ⌜ Decided (quarter-refusal posted (now (line .entry)) quarter) r (λ a. Divides posted (now (line .entry)) (now (line .exit)) a) ⌝ }
     ensures same { λ r. ⌜ elim r [ Ok a ↦ Unit {0} | Err e ↦ now (line .exit) ≡ now (line .entry) ] ⌝ }
 {
     let weights = Weights::of(line)?;
-    let residual = posted.residual(weights.net)?;
-    let split = Split::new(weights.total, residual, quarter)?;
-    let priced = correct_line(line, split);
-    Ok(Allocated {
-        net: weights.net,
-        split,
-        priced,
-    })
+    let split = split_of(weights, posted, quarter)?;
+    Ok(correct_quarter(line, weights, split))
 }

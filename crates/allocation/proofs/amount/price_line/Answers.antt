@@ -4,7 +4,7 @@ use native.Mathlib.Omega.{arith}
 use lib.IntN.{pos}
 use lib.ListN.{length}
 use Rattle.allocation.specs.Amounts.{settled}
-use Rattle.allocation.proofs.Money.{halfway-fits, halfway-more, halfway-end}
+use Rattle.allocation.proofs.Money.{halfway-fits, halfway-more, halfway-end, settles}
 use Rattle.allocation.proofs.amount.price_line.Needs as need
 
 pub price-one-requires : need.price-one-requires
@@ -22,4 +22,4 @@ loop-one-again c =
 pub returns : need.returns
 returns c =
     let l : length (c .loop-one .line) ≤ c .loop-one .one-index = omega arith in
-    halfway-end _ _ _ _ _ (c .loop-one .inv .1) l ∙ ap (λ p. settled (p .cents) (pos 0) (c .args .line .now)) (c .new-settling .ensures .price)
+    settles _ _ _ (halfway-end _ _ _ _ _ (c .loop-one .inv .1) l ∙ ap (λ p. settled (p .cents) (pos 0) (c .args .line .now)) (c .new-settling .ensures .price))

@@ -1,11 +1,11 @@
 use mathlib.Core.Path.{refl}
 use Rattle.allocation.specs.Correction.{share, correction-of}
 use Rattle.allocation.specs.Scale.{weight-of}
-use Rattle.allocation.specs.Settling.{price-of, value-at, amount-of}
+use Rattle.allocation.specs.Settling.{value-at, amount-of}
 use Rattle.allocation.proofs.worked.worked_quarters.Needs as need
 
 pub returns : need.returns
-unfolding weight-of share correction-of price-of value-at amount-of
+unfolding weight-of share correction-of value-at amount-of
 returns c = record {
   half-up = refl;
   less-dropped = refl;
