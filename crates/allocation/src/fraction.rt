@@ -17,7 +17,7 @@ pub const WHOLE: u32 = 1_000_000;
 const MOST_STANDING: u64 = 10_000_000_000;
 
 // The part of a standard year volume that falls into one quarter, as a profile has it.
-#[derive(Clone, Copy, PartialEq, Eq, Debug)]
+#[derive(Clone, Copy)]
 pub struct Fraction {
     parts: u32,
     ghost within: { parts ≤ whole },
@@ -42,7 +42,7 @@ impl Fraction {
 }
 
 // The standard year volumes of a group's connections in one register, added up, in kWh.
-#[derive(Clone, Copy, PartialEq, Eq, Debug)]
+#[derive(Clone, Copy)]
 pub struct StandingSum {
     kwh: u64,
     ghost within: { kwh ≤ most-standing },

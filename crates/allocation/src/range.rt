@@ -18,7 +18,7 @@ pub(crate) const MOST_QUARTERS: u32 = 2_980;
 pub(crate) const MOST_VOLUME: u64 = 13_000_000_000_000;
 
 // A price, in cents per MWh.
-#[derive(Clone, Copy, PartialEq, Eq, Debug)]
+#[derive(Clone, Copy)]
 pub struct Price {
     pub(crate) cents: i64,
     ghost within: { natAbs cents ≤ most-price },
@@ -43,7 +43,7 @@ impl Price {
 }
 
 // What a quarter brings into the price of its period: the size of its corrected offtake and feed-in, in Wh.
-#[derive(Clone, Copy, PartialEq, Eq, Debug)]
+#[derive(Clone, Copy)]
 pub struct PricedVolume {
     pub(crate) wh: u64,
     ghost within: { wh ≤ most-priced },

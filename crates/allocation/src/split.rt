@@ -6,7 +6,7 @@ ghost use Rattle.allocation.specs.Scale.{most-weights, most-residual};
 ghost use Rattle.allocation.specs.Correction.{signed, share};
 
 // The total T of a quarter's weights and its residual R, which some weight carries.
-#[derive(Clone, Copy, PartialEq, Eq, Debug)]
+#[derive(Clone, Copy)]
 pub struct Split {
     pub(crate) total: u64,
     pub(crate) residual: i64,
@@ -32,7 +32,7 @@ impl Split {
 }
 
 // A split on its way along the line: the weight W that it has passed, and what offtake and feed-in have got.
-#[derive(Clone, Copy, PartialEq, Eq, Debug)]
+#[derive(Clone, Copy)]
 pub struct Running {
     pub(crate) split: Split,
     pub(crate) passed: u64,
@@ -43,7 +43,7 @@ pub struct Running {
 }
 
 // What a weight gains of the residual, and what it comes to with that.
-#[derive(Clone, Copy, PartialEq, Eq, Debug)]
+#[derive(Clone, Copy)]
 pub struct Corrected {
     pub correction: i64,
     pub volume: i64,
