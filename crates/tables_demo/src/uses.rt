@@ -18,7 +18,11 @@ use fault::Fault;
 use tables::Table;
 
 // One meter goes, another comes: the new one is found, and the old one is answered.
-pub(crate) fn exchange_meter(table: &mut Table<'_, Meter>, gone: u64, new: Meter) -> Result<Meter, Fault>
+pub(crate) fn exchange_meter(
+    table: &mut Table<'_, Meter>,
+    gone: u64,
+    new: Meter,
+) -> Result<Meter, Fault>
     ensures sound { λ _. ⌜ (Sound meter-rules (now (table .entry)) → Sound meter-rules (now (table .exit))) ⌝ }
     ensures found { λ r. ⌜ (Sound meter-rules (now (table .entry)) → made r (λ old. (row-with meter-rules (now (table .entry)) gone ≡ Some old) × (row-with meter-rules (now (table .exit)) (new .code) ≡ Some new))) ⌝ }
 {
