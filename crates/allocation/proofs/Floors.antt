@@ -1,8 +1,7 @@
 -- Division rounded down. Assumes nothing.
-use Rattle.std.proofs.Common.{◌≡◌, ℕ, zero, suc, ◌+◌, ◌*◌, ◌/◌, ◌%◌, ◌<◌, ◌≤◌, ℤ, pos, negsuc, ◌+ℤ◌, ◌-ℤ◌, ◌*ℤ◌, neg_ℤ, nat_abs, ◌≤ℤ◌, ◌<ℤ◌, sym, refl, ap, ◌∙◌, mod-lt, mul_comm, div-lt_iff_lt-mul, mul-suc, arith, lit<}
+use Rattle.std.proofs.Common.{◌≡◌, ℕ, ◌*◌, ◌/◌, ◌<◌, ◌≤◌, ℤ, pos, negsuc, ◌+ℤ◌, ◌-ℤ◌, ◌*ℤ◌, nat_abs, ◌≤ℤ◌, ◌<ℤ◌, ◌∙◌, mod-lt, mul_comm, div-lt_iff_lt-mul, mul-suc, arith, lit<}
 use native.Mathlib.Nat.{div-add-mod, div-le_of_le-mul}
 use lib.IntN.{*ℤ_comm}
-use borrow.Author.Differences.{up, down, product_is}
 use Rattle.std.proofs.lemmas.Int.{ints}
 use Rattle.allocation.specs.Scale.{per_mwh}
 use Rattle.allocation.specs.Settling.{floor, Floor, value_at, amount_of, Cent}

@@ -1,6 +1,6 @@
 -- Products of integers, spread over sums. Assumes nothing.
 use Rattle.std.proofs.Common.{◌≡◌, ℕ, zero, suc, ◌+◌, ◌*◌, ℤ, pos, negsuc, ◌+ℤ◌, ◌-ℤ◌, ◌*ℤ◌, neg_ℤ, nat_abs, sym, refl, ap, ◌∙◌, mul-add, arith}
-use lib.IntN.{*ℤ_comm, *ℤ-zero, *ℤ-negsuc, neg_ℤ-neg_ℤ}
+use lib.IntN.{*ℤ-zero, *ℤ-negsuc, neg_ℤ-neg_ℤ}
 use borrow.Author.Differences.{up, down, sum_is_lem, same_in, product_is}
 use Rattle.std.proofs.lemmas.Int.{ints}
 

@@ -1,13 +1,11 @@
 -- A divided line closes, and its volumes are near their exact shares. Assumes nothing.
-use Rattle.std.proofs.Common.{◌≡◌, ℕ, zero, suc, ◌+◌, ◌<◌, ◌≤◌, List, [], ◌∷◌, ℤ, pos, ◌+ℤ◌, ◌-ℤ◌, neg_ℤ, nat_abs, sym, refl, ap, ◌∙◌, subst, ⊎_elim, add-zero, add_assoc, zero-add, arith}
+use Rattle.std.proofs.Common.{◌≡◌, ℕ, zero, suc, ◌+◌, ◌≤◌, List, [], ◌∷◌, ℤ, pos, ◌+ℤ◌, ◌-ℤ◌, neg_ℤ, sym, refl, ap, ◌∙◌, subst, add-zero, add_assoc, zero-add, arith}
 use Rattle.std.proofs.lemmas.Int.{ints}
-use Rattle.std.specs.List.{AllByRecursion}
 use Rattle.allocation.specs.declared.line.Allocated.{Allocated}
 use Rattle.allocation.specs.declared.line.Posted.{Posted}
 use Rattle.allocation.specs.declared.line.Share.{Share}
-use Rattle.allocation.specs.declared.split.Split.{Split}
-use Rattle.allocation.specs.Correction.{share, correction_of, profiled, corrected, exact, Near}
-use Rattle.allocation.specs.Lines.{total, net, residual, shared, divided, got, priced, Fair, Divides}
+use Rattle.allocation.specs.Correction.{share, correction_of}
+use Rattle.allocation.specs.Lines.{total, net, residual, divided, got, priced, Fair, Divides}
 use Rattle.allocation.proofs.Shares.{near, share_start, share_whole, share_none}
 
 -- the corrections of a line are what the split gives out along it

@@ -1,5 +1,5 @@
 -- A line, from its head on. Assumes nothing.
-use Rattle.std.proofs.Common.{◌≡◌, ℕ, ◌+◌, ◌*◌, ◌<◌, ◌≤◌, List, [], ◌∷◌, ◌++◌, length, get_or, take, drop, set, ℤ, pos, negsuc, ◌+ℤ◌, ◌-ℤ◌, neg_ℤ, nat_abs, Some, None, sym, refl, ap, ◌∙◌, subst, add-zero, add_assoc, zero-add, arith}
+use Rattle.std.proofs.Common.{◌≡◌, ℕ, ◌+◌, ◌<◌, ◌≤◌, List, ◌∷◌, ◌++◌, length, get_or, take, drop, set, ℤ, pos, ◌+ℤ◌, nat_abs, Some, None, sym, refl, ap, ◌∙◌, subst, arith}
 use Rattle.std.proofs.lemmas.List.{drop_more, drop_all}
 use Rattle.std.proofs.lemmas.Int.{ints}
 use Rattle.fault.specs.declared.cause.Direction.{Direction}
@@ -8,10 +8,10 @@ use Rattle.fault.specs.declared.cause.Fault.{Fault}
 use Rattle.allocation.specs.declared.line.Share.{Share}
 use Rattle.allocation.specs.declared.split.Running.{Running}
 use Rattle.allocation.specs.declared.split.Split.{Split}
-use Rattle.allocation.specs.Correction.{share, correction_of, profiled, corrected}
+use Rattle.allocation.specs.Correction.{profiled}
 use Rattle.allocation.specs.Scale.{most_weights}
 use Rattle.allocation.specs.Steps.{part, Stepped}
-use Rattle.allocation.specs.Lines.{total, net, shared, divided, got, got_in, weights_refusal}
+use Rattle.allocation.specs.Lines.{total, net, shared, divided, got_in, weights_refusal}
 use Rattle.allocation.proofs.Along.{along_more, along_end, drop_past_set}
 
 -- t and v are what the first i weights come to

@@ -1,10 +1,10 @@
 -- One weight of the line. Assumes nothing.
-use Rattle.std.specs.Prelude.{◌≡◌, ℕ, ◌+◌, ℤ, pos, ◌+ℤ◌, ◌*ℤ◌}
+use Rattle.std.specs.Prelude.{◌≡◌, ℕ, ◌+◌, ℤ, pos, ◌+ℤ◌}
 use Rattle.fault.specs.declared.cause.Direction.{Direction}
 use Rattle.fault.specs.declared.cause.Direction.TheVariants.{Offtake, FeedIn}
 use Rattle.allocation.specs.declared.split.Corrected.{Corrected}
 use Rattle.allocation.specs.declared.split.Running.{Running}
-use Rattle.allocation.specs.Correction.{correction_of, corrected, exact, Near}
+use Rattle.allocation.specs.Correction.{correction_of, corrected}
 
 -- a volume where it is of the direction asked for, else 0
 abbrev pub part : Direction → Direction → ℤ → ℤ

@@ -1,6 +1,5 @@
 -- Quarters worked by hand, as one table. Assumes nothing.
-use Rattle.std.specs.Prelude.{◌≡◌, ℕ, ◌+◌, ◌*◌, List, [], ◌∷◌, map, ℤ, pos, negsuc, neg_ℤ, Some, None}
-use Rattle.fault.specs.declared.cause.Direction.{Direction}
+use Rattle.std.specs.Prelude.{◌≡◌, ℕ, ◌+◌, ◌*◌, List, [], ◌∷◌, map, ℤ, pos, neg_ℤ, Some, None}
 use Rattle.fault.specs.declared.cause.Direction.TheVariants.{Offtake, FeedIn}
 use Rattle.fault.specs.declared.cause.Fault.TheVariants.{NothingToShare}
 use Rattle.fault.specs.declared.cause.Quarter.{Quarter}

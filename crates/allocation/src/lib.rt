@@ -1,4 +1,6 @@
 // The arithmetic of one quarter and of settling: exact, over whole numbers.
+#![tactic(auto)]
+
 pub mod amount;
 mod exact;
 pub mod fraction;

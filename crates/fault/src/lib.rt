@@ -1,4 +1,6 @@
 // Why an entry does not go in: the one fault type of the whole product.
+#![tactic(auto)]
+
 pub mod cause;
 mod display;
 pub mod notice;

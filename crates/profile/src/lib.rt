@@ -1,4 +1,6 @@
 // What a profile is asked, and who may answer: for a class, a direction and a quarter the fraction of a standard year volume.
+#![tactic(auto)]
+
 pub mod fallback;
 pub mod lent;
 pub mod nothing;

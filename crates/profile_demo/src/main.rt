@@ -1,4 +1,6 @@
 // Asks profile sources of every kind, one of them made here, and prints what they answer.
+#![tactic(auto)]
+
 ghost use Rattle.std.specs.Prelude.{◌≡◌, IfOk};
 ghost use Rattle.profile.specs.Meanings.{Answers};
 ghost use Rattle.fault.specs.declared.cause.Fault.TheVariants.{FractionAbsent};

@@ -1,4 +1,6 @@
 // One quarter-hour of a grid area, from standard input: what the profile gave each group, the residual, and what each group got.
+#![tactic(auto)]
+
 mod book;
 mod input;
 mod parse;

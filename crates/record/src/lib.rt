@@ -1,4 +1,6 @@
 // Records: one byte of kind and a body whose length the kind fixes, as values and as bytes.
+#![tactic(auto)]
+
 pub mod entry;
 mod entry_read;
 mod entry_write;

@@ -1,4 +1,6 @@
 // Prints records in hexadecimal: each is written, read and written again.
+#![tactic(auto)]
+
 use fault::{BytePlace, Code, Fault};
 use record::{Enrolment, Entry, GroupVolumes, PageRecord};
 use std::io;

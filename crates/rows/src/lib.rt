@@ -1,4 +1,6 @@
 // The rows of the book, and the loops over its group rows.
+#![tactic(auto)]
+
 pub mod amounts;
 pub mod clear;
 pub mod code;

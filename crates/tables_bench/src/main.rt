@@ -1,4 +1,6 @@
 // Times the keyed table on rows of 72 bytes. With no argument it does nothing, so that a check costs no time.
+#![tactic(auto)]
+
 ghost use Rattle.std.specs.Prelude.{◌<◌};
 ghost use Rattle.tables_bench.specs.Wide.{wide_rules};
 ghost use Rattle.std.proofs.Common.{rules};

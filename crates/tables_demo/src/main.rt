@@ -1,4 +1,6 @@
 // The keyed table at three kinds of row: keyed by a number, by a triple, by sixteen bytes of text.
+#![tactic(auto)]
+
 mod bytes;
 mod rows;
 mod uses;

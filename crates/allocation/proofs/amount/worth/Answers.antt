@@ -1,5 +1,5 @@
-use Rattle.std.proofs.Common.{◌≡◌, ◌^◌, ◌<◌, pos, nat_abs, ap, ◌∙◌, mul-le-mul_left, arith, w64, SFits, rules}
-use Rattle.std.proofs.lemmas.Int.{ints, to_z-of_z, to_z_pos}
+use Rattle.std.proofs.Common.{◌^◌, ◌<◌, mul-le-mul_left, arith, w64, SFits, rules}
+use Rattle.std.proofs.lemmas.Int.{to_z-of_z, to_z_pos}
 use Rattle.allocation.proofs.Numbers.{product_within}
 use Rattle.allocation.proofs.amount.worth.Goals as goal
 

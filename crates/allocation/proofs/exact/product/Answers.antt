@@ -1,10 +1,10 @@
-use Rattle.std.proofs.Common.{◌≡◌, ◌*ℤ◌, refl, ap, ◌∙◌, arith, w64, SFits, to_z, of_z}
+use Rattle.std.proofs.Common.{◌*ℤ◌, refl, arith, w64, SFits}
 use Rattle.std.proofs.lemmas.Int.{ints, to_z-of_z}
 use Rattle.allocation.proofs.Integers.{product_size}
 use Rattle.allocation.proofs.exact.product.Goals as goal
 
-pub overflow-mul-result : goal.overflow-mul-result
-overflow-mul-result c = rw (to_z-of_z w64 _ c.ranges.volume, to_z-of_z w64 _ c.ranges.cents) (omega (arith, ints, product_size c.args.volume c.args.cents, c.requires))
+pub overflow_mul-result : goal.overflow_mul-result
+overflow_mul-result c = rw (to_z-of_z w64 _ c.ranges.volume, to_z-of_z w64 _ c.ranges.cents) (omega (arith, ints, product_size c.args.volume c.args.cents, c.requires))
 
 pub returns : goal.returns
 returns c =

@@ -1,4 +1,3 @@
-use Rattle.std.proofs.Common.{◌≡◌, ◌*◌, ◌≤◌, ◌∙◌, arith}
 use Rattle.allocation.specs.Scale.{weight_of}
 use Rattle.allocation.proofs.Numbers.{product_within}
 use Rattle.allocation.proofs.fraction.weight.Goals as goal

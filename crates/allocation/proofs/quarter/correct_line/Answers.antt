@@ -1,4 +1,4 @@
-use Rattle.std.proofs.Common.{◌≡◌, ◌+◌, ◌<◌, ◌≤◌, length, pos, nat_abs, sym, refl, ap, ◌∙◌, subst, arith}
+use Rattle.std.proofs.Common.{◌+◌, ◌<◌, ◌≤◌, length, pos, nat_abs, sym, refl, ap, ◌∙◌, arith}
 use Rattle.fault.specs.declared.cause.Direction.TheVariants.{Offtake, FeedIn}
 use Rattle.allocation.specs.Lines.{divided, got_in}
 use Rattle.allocation.proofs.Lines.{midway_start, midway_fits, midway_turn, midway_end}
@@ -9,8 +9,8 @@ loop-share-init c =
     let told = c.start-running.ensures in
     midway_start _ _ c.start-running.result (c.requires ∙ ap (λ s. s.total) (sym told.split)) refl told.passed told.offtake told.feed_in
 
-pub correct-share-requires : goal.correct-share-requires
-correct-share-requires c =
+pub correct_share-requires : goal.correct_share-requires
+correct_share-requires c =
     let same = ap (λ s. s.total) c.loop-share.invariant.0 in
     let l : c.loop-share.share-index < length c.loop-share.line = omega arith in
     omega (arith, same, midway_fits _ _ _ _ _ _ _ (record { direction = Offtake; weight = 0; correction = pos 0; volume = pos 0 }) c.loop-share.invariant.1 l)
@@ -18,7 +18,7 @@ correct-share-requires c =
 pub loop-share-preserved : goal.loop-share-preserved
 loop-share-preserved c =
     let l : c.loop-share.share-index < length c.loop-share.line = omega arith in
-    midway_turn _ _ _ _ _ _ _ _ c.loop-share.invariant.0 c.loop-share.invariant.1 l c.correct-share.ensures.after c.correct-share.ensures.stepped
+    midway_turn _ _ _ _ _ _ _ _ c.loop-share.invariant.0 c.loop-share.invariant.1 l c.correct_share.ensures.after c.correct_share.ensures.stepped
 
 pub returns : goal.returns
 returns c =

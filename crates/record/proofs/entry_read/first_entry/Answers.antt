@@ -8,11 +8,11 @@ use Rattle.record.proofs.entry_read.first_entry.Goals as goal
 pub returns-in-default : goal.returns-in-default
 returns-in-default c = nil_from_length c.args.bytes.now (search rules)
 
-pub returns-in-Some-split-at-checked : goal.returns-in-Some-split-at-checked
-returns-in-Some-split-at-checked c =
+pub returns-in-Some-split_at_checked : goal.returns-in-Some-split_at_checked
+returns-in-Some-split_at_checked c =
     let some : 0 < length c.args.bytes.now = search rules in
-    let parts = c.in-Some-split-at-checked.ensures.cases in
-    let read = c.entry-of.ensures in
-    let split = apart entries c.args.bytes.now _ _ _ _ some (sym c.of-number.ensures ∙ c.in-Some.is) parts.1 parts.2 in
+    let parts = c.in-Some-split_at_checked.ensures.cases in
+    let read = c.entry_of.ensures in
+    let split = apart entries c.args.bytes.now _ _ _ _ some (sym c.of_number.ensures ∙ c.in-Some.is) parts.1 parts.2 in
     let body = read_body entries _ _ _ (parts.3 ∙ c.length.ensures) read.kind read.values read.registers in
     begins lawful _ _ _ _ _ split read.kind body.0 body.1

@@ -7,13 +7,13 @@ pub loop-b-init : goal.loop-b-init
 unfolding big
 loop-b-init c = (refl, omega arith)
 
-pub overflow-mul-n : goal.overflow-mul-n
-overflow-mul-n c =
+pub overflow_mul-n : goal.overflow_mul-n
+overflow_mul-n c =
     let part = part_length c.args.body.now c.args.at c.args.width c.requires.0 in
     record { fits = omega (arith, room c.loop-b.b-index c.loop-b.n 0 (omega arith) c.loop-b.invariant.1 (omega arith)) }
 
-pub overflow-add-n : goal.overflow-add-n
-overflow-add-n c =
+pub overflow_add-n : goal.overflow_add-n
+overflow_add-n c =
     let part = part_length c.args.body.now c.args.at c.args.width c.requires.0 in
     record { fits = room c.loop-b.b-index c.loop-b.n _ (omega arith) c.loop-b.invariant.1 (search rules) }
 

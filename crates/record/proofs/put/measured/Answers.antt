@@ -13,8 +13,8 @@ returns-then-not-fits c =
     let now = fit_more _ c.loop-field.field-index c.loop-field-test.true in
     sym c.loop-field.invariant.0 ∙ now ∙ and_left _ _ (sym c.if-not-fits.ensures)
 
-pub overflow-add-n : goal.overflow-add-n
-overflow-add-n c =
+pub overflow_add-n : goal.overflow_add-n
+overflow_add-n c =
     let small = (narrow_more _ c.loop-field.field-index c.loop-field-test.true c.loop-field.invariant.2).0 in
     record { fits = omega arith }
 

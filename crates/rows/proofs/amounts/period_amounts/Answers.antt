@@ -12,10 +12,10 @@ returns c =
     let row = c.args.row.now in
     let line = c.args.settling in
     let period = period_number c.args.period in
-    let o : SFits w128 c.reconciled-at-offtake.result = search rules in
-    let f : SFits w128 c.reconciled-at-feed-in.result = search rules in
+    let o : SFits w128 c.reconciled_at-offtake.result = search rules in
+    let f : SFits w128 c.reconciled_at-feed_in.result = search rules in
     let number = c.number-number.ensures in
-    let first : to_z w128 (of_z w128 c.reconciled-at-offtake.result) ≡ reconciliation row (register 0 period) = to_z-of_z w128 _ o ∙ c.reconciled-at-offtake.ensures.value ∙ ap (reconciliation row) (number ∙ sym (zero-add period)) in
-    let second : to_z w128 (of_z w128 c.reconciled-at-feed-in.result) ≡ reconciliation row (register 1 period) = to_z-of_z w128 _ f ∙ c.reconciled-at-feed-in.ensures.value ∙ ap (λ n. reconciliation row (2 + n)) number in
-    subst (λ (z : ℤ). Pairs line z (reconciliation row (register 1 period)) c.pair-amounts.result) first
-    (subst (λ (z : ℤ). Pairs line (to_z w128 (of_z w128 c.reconciled-at-offtake.result)) z c.pair-amounts.result) second c.pair-amounts.ensures)
+    let first : to_z w128 (of_z w128 c.reconciled_at-offtake.result) ≡ reconciliation row (register 0 period) = to_z-of_z w128 _ o ∙ c.reconciled_at-offtake.ensures.value ∙ ap (reconciliation row) (number ∙ sym (zero-add period)) in
+    let second : to_z w128 (of_z w128 c.reconciled_at-feed_in.result) ≡ reconciliation row (register 1 period) = to_z-of_z w128 _ f ∙ c.reconciled_at-feed_in.ensures.value ∙ ap (λ n. reconciliation row (2 + n)) number in
+    subst (λ (z : ℤ). Pairs line z (reconciliation row (register 1 period)) c.pair_amounts.result) first
+    (subst (λ (z : ℤ). Pairs line (to_z w128 (of_z w128 c.reconciled_at-offtake.result)) z c.pair_amounts.result) second c.pair_amounts.ensures)

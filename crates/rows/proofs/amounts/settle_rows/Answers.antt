@@ -13,22 +13,22 @@ use Rattle.rows.proofs.amounts.settle_rows.Goals as goal
 pub loop-row-init : goal.loop-row-init
 loop-row-init c = (refl, λ loss. walked_start _ _ loss _ _ c.new-settling.ensures.total)
 
-pub returns-in-err-pass-row : goal.returns-in-err-pass-row
-returns-in-err-pass-row c =
-    let p = err_from_is_err_and c.from-residual.result c.from-residual.ensures.1 in
+pub returns-in_err-pass_row : goal.returns-in_err-pass_row
+returns-in_err-pass_row c =
+    let p = err_from_is_err_and c.from_residual.result c.from_residual.ensures.1 in
     let cut = drop_more c.args.rows.now c.loop-row.row-index _ c.loop-row-test.true in
-    rw (p.1, p.2) (walked_refused _ _ c.args.loss _ _ _ _ cut _ (c.loop-row.invariant.1 c.args.loss) _ c.in-err-pass-row.ensures)
+    rw (p.1, p.2) (walked_refused _ _ c.args.loss _ _ _ _ cut _ (c.loop-row.invariant.1 c.args.loss) _ c.in_err-pass_row.ensures)
 
 pub loop-row-preserved : goal.loop-row-preserved
 loop-row-preserved c =
     let cut = drop_more c.args.rows.now c.loop-row.row-index _ c.loop-row-test.true in
-    let told = c.in-ok-pass-row.ensures in
+    let told = c.in_ok-pass_row.ensures in
     (told.1.1 ∙ c.loop-row.invariant.0, λ loss. walked_more _ _ loss _ _ _ _ cut _ (c.loop-row.invariant.1 loss) _ told.0 told.1.0)
 
 pub returns : goal.returns
 returns c =
     let none = drop_all c.loop-row.row-index c.args.rows.now c.loop-row-test.false in
-    let told = rw (to_z-of_z w128 _ c.ranges.loss) at c.wide-amount.ensures.answer in
+    let told = rw (to_z-of_z w128 _ c.ranges.loss) at c.wide_amount.ensures.answer in
     let same = ap (λ (p : Price). p.cents) c.loop-row.invariant.0 in
-    subst (λ (p : Price). Decided (settle_refusal (period_number c.args.period) c.args.rows.now c.args.loss) c.wide-amount.result (λ a. a ≡ loss_amount p.cents (period_number c.args.period) c.args.rows.now c.args.loss)) c.new-settling.ensures.price
-    (walked_end _ _ c.args.loss _ _ _ _ c.wide-amount.result _ _ same none (c.loop-row.invariant.1 c.args.loss) told)
+    subst (λ (p : Price). Decided (settle_refusal (period_number c.args.period) c.args.rows.now c.args.loss) c.wide_amount.result (λ a. a ≡ loss_amount p.cents (period_number c.args.period) c.args.rows.now c.args.loss)) c.new-settling.ensures.price
+    (walked_end _ _ c.args.loss _ _ _ _ c.wide_amount.result _ _ same none (c.loop-row.invariant.1 c.args.loss) told)

@@ -4,7 +4,7 @@ use Rattle.rows.proofs.InPlace.{map_turn, map_end}
 use Rattle.rows.proofs.clear.clear_quarters.Goals as goal
 
 pub loop-row-preserved : goal.loop-row-preserved
-loop-row-preserved c = map_turn cleared _ _ _ (omega arith) c.loop-row.invariant _ _ c.loop-row-test.true c.clear-quarter.ensures
+loop-row-preserved c = map_turn cleared _ _ _ (omega arith) c.loop-row.invariant _ _ c.loop-row-test.true c.clear_quarter.ensures
 
 pub returns : goal.returns
 returns c = map_end cleared _ _ _ (omega arith) c.loop-row.invariant c.loop-row-test.false

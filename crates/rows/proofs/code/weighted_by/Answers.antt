@@ -5,11 +5,11 @@ use Rattle.rows.proofs.code.weighted_by.Goals as goal
 pub loop-weight-init : goal.loop-weight-init
 loop-weight-init c = none_summed _ _ c.requires.small
 
-pub overflow-mul-sum : goal.overflow-mul-sum
-overflow-mul-sum c = omega (arith, digit_small _ _ _ _ _ 0 c.requires.all c.loop-weight-test.true c.loop-weight.invariant)
+pub overflow_mul-sum : goal.overflow_mul-sum
+overflow_mul-sum c = omega (arith, digit_small _ _ _ _ _ 0 c.requires.all c.loop-weight-test.true c.loop-weight.invariant)
 
-pub overflow-add-sum : goal.overflow-add-sum
-overflow-add-sum c = omega (arith, c.loop-weight.invariant.small, digit_small _ _ _ _ _ 0 c.requires.all c.loop-weight-test.true c.loop-weight.invariant)
+pub overflow_add-sum : goal.overflow_add-sum
+overflow_add-sum c = omega (arith, c.loop-weight.invariant.small, digit_small _ _ _ _ _ 0 c.requires.all c.loop-weight-test.true c.loop-weight.invariant)
 
 pub loop-weight-preserved : goal.loop-weight-preserved
 loop-weight-preserved c = one_summed _ _ _ _ _ 0 c.requires.all c.loop-weight-test.true c.loop-weight.invariant

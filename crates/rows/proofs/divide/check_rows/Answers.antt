@@ -12,8 +12,8 @@ loop-row-init c =
     let holds = subst (λ (s : Split). adds_to s.total c.args.rows.now ≡ true) (sym told.split) c.requires in
     checking_start _ _ _ c.start-running.result holds refl told.passed told.offtake told.feed_in
 
-pub divide-row-requires : goal.divide-row-requires
-divide-row-requires c =
+pub divide_row-requires : goal.divide_row-requires
+divide_row-requires c =
     let cut = drop_more c.args.rows.now c.loop-row.row-index _ c.loop-row-test.true in
     record {
       signs = ahead_signs _ _ _ _ cut _ c.loop-row.invariant.ahead;

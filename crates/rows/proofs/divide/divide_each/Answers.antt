@@ -12,8 +12,8 @@ loop-row-init c =
     let within = subst (λ (s : Split). month_passed s.total s.residual (period_number c.args.period) 0 c.args.rows.now ≡ false) (sym told.split) c.requires.within in
     writing_start _ _ _ c.start-running.result holds within refl told.passed
 
-pub write-divided-requires : goal.write-divided-requires
-write-divided-requires c =
+pub write_divided-requires : goal.write_divided-requires
+write_divided-requires c =
     let l : c.loop-row.row-index < length c.loop-row.rows = omega arith in
     record {
       signs = writing_signs _ _ _ _ _ _ l _ c.loop-row.invariant;
@@ -24,7 +24,7 @@ write-divided-requires c =
 pub loop-row-preserved : goal.loop-row-preserved
 loop-row-preserved c =
     let l : c.loop-row.row-index < length c.loop-row.rows = omega arith in
-    writing_more _ _ _ _ _ _ l _ c.loop-row.invariant _ _ c.write-divided.ensures.after c.write-divided.ensures.stepped
+    writing_more _ _ _ _ _ _ l _ c.loop-row.invariant _ _ c.write_divided.ensures.after c.write_divided.ensures.stepped
 
 pub returns : goal.returns
 returns c =

@@ -3,8 +3,8 @@ use Rattle.allocation.proofs.Numbers.{product_within}
 use Rattle.rows.specs.Connections.{advance}
 use Rattle.rows.proofs.meter.advance.Goals as goal
 
-pub overflow-mul-result-2 : goal.overflow-mul-result-2
-overflow-mul-result-2 c = omega (arith, product_within c.counted.result c.args.factor 999999 255 (omega arith) (omega arith))
+pub overflow_mul-result-2 : goal.overflow_mul-result-2
+overflow_mul-result-2 c = omega (arith, product_within c.counted.result c.args.factor 999999 255 (omega arith) (omega arith))
 
 pub returns : goal.returns
 unfolding advance

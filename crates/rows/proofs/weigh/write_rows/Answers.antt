@@ -3,8 +3,8 @@ use Rattle.rows.proofs.InPlace.{map_turn, map_left, map_end}
 use Rattle.rows.proofs.Counting.{row_present, row_few}
 use Rattle.rows.proofs.weigh.write_rows.Goals as goal
 
-pub write-row-requires : goal.write-row-requires
-write-row-requires g c =
+pub write_row-requires : goal.write_row-requires
+write_row-requires g c =
     let meaning = g.S.ProfileSource.means c.args.source.now in
     let quarter = c.args.quarter in
     let same = map_left _ _ _ _ (omega arith) c.loop-row.invariant _ c.loop-row-test.true in
@@ -14,7 +14,7 @@ write-row-requires g c =
     }
 
 pub loop-row-preserved : goal.loop-row-preserved
-loop-row-preserved g c = map_turn _ _ _ _ (omega arith) c.loop-row.invariant _ _ c.loop-row-test.true c.write-row.ensures
+loop-row-preserved g c = map_turn _ _ _ _ (omega arith) c.loop-row.invariant _ _ c.loop-row-test.true c.write_row.ensures
 
 pub returns : goal.returns
 returns g c = map_end _ _ _ _ (omega arith) c.loop-row.invariant c.loop-row-test.false

@@ -12,10 +12,10 @@ use Rattle.rows.proofs.weighed.split_of.Goals as goal
 residual-first : (t : ℕ) (r : ℤ) (q : Quarter) (e : Fault) → t ≤ most_weights → residual_refusal r ≡ Some e → split_refusal t r q ≡ Some e
 residual-first t r q e few h = grind arith
 
-pub returns-in-err-residual : goal.returns-in-err-residual
-returns-in-err-residual c =
+pub returns-in_err-residual : goal.returns-in_err-residual
+returns-in_err-residual c =
     let posted = c.args.posted in
-    let p = err_from_is_err_and c.from-residual.result c.from-residual.ensures.1 in
+    let p = err_from_is_err_and c.from_residual.result c.from_residual.ensures.1 in
     let net : SFits w64 c.args.totals.net = search rules in
-    let told = rw (to_z-of_z w64 _ net) at c.in-err-residual.ensures in
-    rw (p.1, p.2) (residual-first _ (residual_of posted.exchange posted.decreases c.args.totals.net posted.losses) c.args.quarter _ c.args.totals.few told)
+    let told = rw (to_z-of_z w64 _ net) at c.in_err-residual.ensures in
+    rw (p.1, p.2) (residual-first _ (residual_of posted.exchange posted.measured c.args.totals.net posted.losses) c.args.quarter _ c.args.totals.few told)

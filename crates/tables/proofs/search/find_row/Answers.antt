@@ -5,7 +5,7 @@ use Rattle.tables.proofs.search.find_row.Goals as goal
 
 pub returns-then-place-rows : goal.returns-then-place-rows
 returns-then-place-rows g c =
-    let first = c.first-not-before-place.ensures in
+    let first = c.first_not_before-place.ensures in
     record {
       within = first.within;
       found = λ rising. belongs g.R.Row.rules g.met.R.Row.ordered _ _ _ first.within (first.below rising) (λ i d le lt. absurd (omega arith));
@@ -13,7 +13,7 @@ returns-then-place-rows g c =
 
 pub returns-then-before : goal.returns-then-before
 returns-then-before g c =
-    let first = c.first-not-before-place.ensures in
+    let first = c.first_not_before-place.ensures in
     let rules = g.R.Row.rules in
     let order = g.met.R.Row.ordered in
     record {
@@ -25,7 +25,7 @@ returns-then-before g c =
 
 pub returns-else-before : goal.returns-else-before
 returns-else-before g c =
-    let first = c.first-not-before-place.ensures in
+    let first = c.first_not_before-place.ensures in
     let rules = g.R.Row.rules in
     let order = g.met.R.Row.ordered in
     record {
@@ -33,6 +33,6 @@ returns-else-before g c =
       found = λ rising.
           stands rules order _ _ _ (omega arith) (first.below rising)
           (λ d.
-          let here = get_or_read _ c.first-not-before-place.result c.index-rows-place.result (omega arith) c.index-rows-place.is d in
+          let here = get_or_read _ c.first_not_before-place.result c.index-rows-place.result (omega arith) c.index-rows-place.is d in
           order.total _ _ (first.above rising _ d (omega arith) (omega arith)) (cc));
     }

@@ -5,5 +5,5 @@ use Rattle.tables.proofs.shift.close_at.Goals as goal
 pub returns : goal.returns
 returns g c = record {
   row = c.index-rows-place.is;
-  after = c.copy-within.ensures.after ∙ closed _ _ _ c.requires.among c.requires.within;
+  after = c.copy_within.ensures.after ∙ closed _ _ _ c.requires.among c.requires.within;
 }

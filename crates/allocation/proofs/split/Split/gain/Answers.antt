@@ -1,7 +1,7 @@
 use Rattle.std.proofs.Common.{arith}
 use Rattle.std.proofs.lemmas.Int.{ints}
 use Rattle.allocation.specs.Correction.{correction_of}
-use Rattle.allocation.proofs.Shares.{share_within, size_grows}
+use Rattle.allocation.proofs.Shares.{size_grows}
 use Rattle.allocation.proofs.split.Split.gain.Goals as goal
 
 pub returns : goal.returns

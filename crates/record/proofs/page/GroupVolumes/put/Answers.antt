@@ -6,7 +6,7 @@ use Rattle.record.proofs.page.GroupVolumes.put.Goals as goal
 
 pub returns : goal.returns
 returns c =
-    let month = c.volume-fields-month.ensures in
-    let real = c.volume-fields-real.ensures in
+    let month = c.volume_fields-month.ensures in
+    let real = c.volume_fields-real.ensures in
     let told = simp (month.value, real.value) at c.put.ensures in
     puts pages (Group c.args.self.now) _ c.args.at _ _ c.put.result c.number.ensures (search rules) (search rules) told

@@ -8,10 +8,10 @@ pub returns : goal.returns
 returns c =
     let keys = map_keys group_rules cleared (λ x. refl) in
     let t = c.args.self.now in
-    let wrote = rewrote group_rules (map cleared) keys t _ c.len-len.result c.len-len.ensures.rows c.clear-front.ensures refl in
+    let wrote = rewrote group_rules (map cleared) keys t _ c.len-len.result c.len-len.ensures.rows c.clear_front.ensures refl in
     record {
       rows = wrote.live_rows;
       kept = wrote.kept;
-      sound = rewrote_sound group_rules (map cleared) keys t _ c.len-len.result c.len-len.ensures.rows c.clear-front.ensures refl;
+      sound = rewrote_sound group_rules (map cleared) keys t _ c.len-len.result c.len-len.ensures.rows c.clear_front.ensures refl;
       lent = refl;
     }

@@ -14,9 +14,9 @@ returns c =
     let split = c.args.split in
     let p = period_number c.args.period in
     let keys = along_keys group_rules (λ b row. b + both_held row) (divided_row split.total split.residual p) (λ s x. refl) 0 in
-    let done = ends group_rules (divided_rows split.total split.residual p 0) keys t _ c.len-len.result c.len-len.ensures.rows refl (same_table t _) c.divide-front.result c.divide-front.ensures.rows in
+    let done = ends group_rules (divided_rows split.total split.residual p 0) keys t _ c.len-len.result c.len-len.ensures.rows refl (same_table t _) c.divide_front.result c.divide_front.ensures.rows in
     record {
-      answer = subst (λ (l : List GroupRow). Decided (divide_refusal split.total split.residual p l) c.divide-front.result (λ d. d.wh ≡ priced split.total split.residual l)) (front_live t _ c.len-len.ensures.rows) c.divide-front.ensures.answer;
+      answer = subst (λ (l : List GroupRow). Decided (divide_refusal split.total split.residual p l) c.divide_front.result (λ d. d.wh ≡ priced split.total split.residual l)) (front_live t _ c.len-len.ensures.rows) c.divide_front.ensures.answer;
       rows = done.rows;
       kept = done.kept;
       sound = done.sound;

@@ -16,11 +16,11 @@ returns g c =
     let quarter = c.args.quarter in
     let p = period_number c.args.period in
     let posted = c.args.posted in
-    let told = c.weigh-front.ensures in
+    let told = c.weigh_front.ensures in
     let keys = map_keys group_rules (weighed meaning quarter p) (weighed_group meaning quarter p) in
-    let done = ends group_rules (map (weighed meaning quarter p)) keys t _ c.len-len.result c.len-len.ensures.rows refl (same_table t _) c.weigh-front.result told.rows in
+    let done = ends group_rules (map (weighed meaning quarter p)) keys t _ c.len-len.result c.len-len.ensures.rows refl (same_table t _) c.weigh_front.result told.rows in
     record {
-      answer = subst (λ (l : List GroupRow). Decided (split_refused meaning quarter p posted l) c.weigh-front.result (λ w. (w.net ≡ weights_net meaning quarter p l) × (w.split.total ≡ weights_total meaning quarter p l) × (w.split.residual ≡ row_residual meaning quarter p posted l))) (front_live t _ c.len-len.ensures.rows) told.answer;
+      answer = subst (λ (l : List GroupRow). Decided (split_refused meaning quarter p posted l) c.weigh_front.result (λ w. (w.net ≡ weights_net meaning quarter p l) × (w.split.total ≡ weights_total meaning quarter p l) × (w.split.residual ≡ row_residual meaning quarter p posted l))) (front_live t _ c.len-len.ensures.rows) told.answer;
       rows = done.rows;
       kept = done.kept;
       sound = done.sound;

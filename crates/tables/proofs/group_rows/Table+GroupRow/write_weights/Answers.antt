@@ -15,11 +15,11 @@ returns g c =
     let meaning = g.S.ProfileSource.means c.args.source.now in
     let quarter = c.args.quarter in
     let p = period_number c.args.period in
-    let told = c.write-front.ensures in
+    let told = c.write_front.ensures in
     let keys = map_keys group_rules (weighed meaning quarter p) (weighed_group meaning quarter p) in
-    let done = ends group_rules (map (weighed meaning quarter p)) keys t _ c.len-len.result c.len-len.ensures.rows refl (same_table t _) c.write-front.result told.rows in
+    let done = ends group_rules (map (weighed meaning quarter p)) keys t _ c.len-len.result c.len-len.ensures.rows refl (same_table t _) c.write_front.result told.rows in
     record {
-      answer = subst (λ (l : List GroupRow). Decided (weigh_refusal meaning quarter p l) c.write-front.result (λ t. (t.total ≡ weights_total meaning quarter p l) × (t.net ≡ weights_net meaning quarter p l))) (front_live t _ c.len-len.ensures.rows) told.answer;
+      answer = subst (λ (l : List GroupRow). Decided (weigh_refusal meaning quarter p l) c.write_front.result (λ t. (t.total ≡ weights_total meaning quarter p l) × (t.net ≡ weights_net meaning quarter p l))) (front_live t _ c.len-len.ensures.rows) told.answer;
       rows = done.rows;
       kept = done.kept;
       sound = done.sound;

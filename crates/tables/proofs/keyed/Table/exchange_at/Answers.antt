@@ -2,8 +2,8 @@ use Rattle.std.proofs.Common.{refl, arith, length-take}
 use Rattle.tables.proofs.Outcomes.{read_live, replaced_outcome, sound_set, wrote_set}
 use Rattle.tables.proofs.keyed.Table.exchange_at.Goals as goal
 
-pub put-at-requires : goal.put-at-requires
-put-at-requires g c =
+pub put_at-requires : goal.put_at-requires
+put_at-requires g c =
     let t = c.args.self.now in
     omega (arith, c.requires, length-take t.len t.rows.now)
 
@@ -13,8 +13,8 @@ returns g c =
     let order = g.met.R.Row.ordered in
     let t = c.args.self.now in
     let place = c.args.place in
-    let wrote = wrote_set t _ place c.args.row c.requires c.put-at.ensures.after refl in
-    let was = read_live t place _ c.requires c.put-at.ensures.row in
+    let wrote = wrote_set t _ place c.args.row c.requires c.put_at.ensures.after refl in
+    let was = read_live t place _ c.requires c.put_at.ensures.row in
     record {
       kept = wrote.kept;
       sound = λ sound seeks. sound_set rules order t _ place sound c.args.row _ wrote.live_rows was seeks;

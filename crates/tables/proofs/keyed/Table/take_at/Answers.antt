@@ -8,11 +8,11 @@ returns g c =
     let order = g.met.R.Row.ordered in
     let t = c.args.self.now in
     let place = c.args.place in
-    let wrote = wrote_removed t _ c.len-len.result place c.len-len.ensures.rows c.requires c.len-len.ensures.within c.close-at-row.ensures.after refl in
-    let was = read_live t place _ c.requires c.close-at-row.ensures.row in
+    let wrote = wrote_removed t _ c.len-len.result place c.len-len.ensures.rows c.requires c.len-len.ensures.within c.close_at-row.ensures.after refl in
+    let was = read_live t place _ c.requires c.close_at-row.ensures.row in
     record {
       kept = wrote.kept;
       sound = λ sound. sound_removed rules order t _ place sound wrote.live_rows c.requires;
-      removed = λ sound k seeks. removed_outcome rules order t _ place sound wrote.live_rows k c.close-at-row.result was seeks;
+      removed = λ sound k seeks. removed_outcome rules order t _ place sound wrote.live_rows k c.close_at-row.result was seeks;
       lent = refl;
     }
