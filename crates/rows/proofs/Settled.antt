@@ -1,5 +1,5 @@
 -- The rows of a month that is settled, from the first row on. Assumes nothing.
-use Rattle.std.proofs.Common.{◌≡◌, ℕ, ◌+◌, ◌*◌, ◌^◌, ◌<◌, ◌≤◌, Bool, true, false, cond, List, [], ◌∷◌, ◌++◌, map, length, get_or, drop, ℤ, pos, ◌+ℤ◌, nat_abs, Some, None, sym, refl, ap, ◌∙◌, subst, arith, ltb-false}
+use Rattle.std.proofs.Common.{◌≡◌, ℕ, ◌+◌, ◌*◌, ◌^◌, ◌<◌, ◌≤◌, Bool, true, false, cond, List, length, get_or, drop, ℤ, pos, ◌+ℤ◌, nat_abs, Some, None, sym, refl, ap, ◌∙◌, arith, ltb-false}
 use Rattle.std.proofs.lemmas.List.{drop_more, drop_all}
 use Rattle.std.proofs.lemmas.Int.{ints}
 use Rattle.fault.specs.declared.cause.Fault.TheVariants.{LimitPassed}
@@ -10,7 +10,6 @@ use Rattle.fault.specs.Values.{period_number}
 use Rattle.allocation.specs.Scale.{most_volume}
 use Rattle.rows.specs.Dividing.{too_large}
 use Rattle.rows.specs.Groups.{has_profile}
-use Rattle.rows.specs.Registers.{register}
 use Rattle.rows.specs.declared.group.GroupRow.{GroupRow}
 use Rattle.rows.specs.Settling.{volume_passed, month_in, real_in, profiled_real}
 use Rattle.rows.specs.RowAmounts.{register_passed, row_volume_passed, row_real, volume_refusal}

@@ -1,9 +1,8 @@
 -- Codes and meters. Assumes nothing.
-use Rattle.std.specs.Prelude.{ℕ, ◌+◌, ◌-◌, ◌*◌, ◌/◌, ◌%◌, ◌^◌, Bool, true, false, cond, not, List, [], ◌∷◌, length, ◌==◌, nat_le, slice_index}
+use Rattle.std.specs.Prelude.{ℕ, ◌+◌, ◌-◌, ◌*◌, ◌/◌, ◌%◌, ◌^◌, Bool, true, cond, not, List, [], ◌∷◌, length, ◌==◌, nat_le, slice_index}
 use Rattle.rows.specs.declared.connection.Digits.{Digits}
 use Rattle.rows.specs.declared.connection.Digits.TheVariants.{Five, Six}
 use Rattle.rows.specs.declared.connection.ConnectionRow.{ConnectionRow}
-use Rattle.rows.specs.Registers.{four}
 
 -- the weights of a code's first seventeen digits, from the left
 abbrev pub digit_weights : List ℕ

@@ -1,5 +1,5 @@
 -- The rows of a quarter that is divided. Assumes nothing.
-use Rattle.std.specs.Prelude.{ℕ, ◌+◌, ◌*◌, ◌/◌, ◌%◌, Bool, true, false, cond, ◌&&◌, List, [], ◌∷◌, ℤ, pos, negsuc, ◌+ℤ◌, ◌==◌, nat_lt, slice_index_or, unsigned_abs}
+use Rattle.std.specs.Prelude.{ℕ, ◌+◌, ◌/◌, ◌%◌, Bool, true, false, cond, ◌&&◌, List, [], ◌∷◌, ℤ, pos, negsuc, ◌+ℤ◌, ◌==◌, nat_lt, slice_index_or, unsigned_abs}
 use Rattle.allocation.specs.Along.{along}
 use Rattle.allocation.specs.Correction.{corrected}
 use Rattle.allocation.specs.Scale.{most_volume}

@@ -1,6 +1,5 @@
 -- The rows of a month that is settled. Assumes nothing.
-use Rattle.std.specs.Prelude.{ℕ, ◌+◌, ◌%◌, Bool, true, false, cond, List, [], ◌∷◌, ◌++◌, map, ℤ, pos, ◌+ℤ◌, ◌-ℤ◌, neg_ℤ, slice_index_or}
-use Rattle.allocation.specs.declared.sums.Reconciled.{Reconciled}
+use Rattle.std.specs.Prelude.{ℕ, Bool, true, false, cond, List, [], ◌∷◌, ℤ, pos, ◌+ℤ◌, ◌-ℤ◌, slice_index_or}
 use Rattle.rows.specs.declared.group.GroupRow.{GroupRow}
 use Rattle.rows.specs.Groups.{has_profile}
 use Rattle.rows.specs.Dividing.{too_large}

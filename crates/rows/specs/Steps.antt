@@ -1,5 +1,5 @@
 -- One row of a quarter that is divided. Assumes nothing.
-use Rattle.std.specs.Prelude.{◌≡◌, ℕ, ◌+◌, ◌/◌, ◌%◌, Bool, true, false, cond, List, ℤ, pos, ◌+ℤ◌, Some, None, Option, ◌==◌, slice_index_or}
+use Rattle.std.specs.Prelude.{◌≡◌, ℕ, ◌+◌, ◌/◌, ◌%◌, Bool, false, cond, List, ℤ, pos, ◌+ℤ◌, Some, None, Option, ◌==◌, slice_index_or}
 use Rattle.fault.specs.declared.cause.Fault.{Fault}
 use Rattle.fault.specs.declared.cause.Fault.TheVariants.{ForeignTables, LimitPassed}
 use Rattle.fault.specs.declared.cause.Limit.TheVariants.{Volume}

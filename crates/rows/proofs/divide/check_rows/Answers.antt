@@ -1,4 +1,4 @@
-use Rattle.std.proofs.Common.{◌≡◌, true, sym, refl, ap, ◌∙◌, subst}
+use Rattle.std.proofs.Common.{◌≡◌, true, sym, refl, subst}
 use Rattle.std.proofs.lemmas.List.{drop_more, drop_all}
 use Rattle.fault.specs.Values.{period_number}
 use Rattle.allocation.specs.declared.split.Split.{Split}
@@ -20,10 +20,10 @@ divide_row-requires c =
       fits = ahead_fits _ _ _ _ cut _ c.loop-row.invariant.ahead;
     }
 
-pub returns-in-default : goal.returns-in-default
-returns-in-default c =
+pub returns-in_default : goal.returns-in_default
+returns-in_default c =
     let cut = drop_more c.args.rows.now c.loop-row.row-index _ c.loop-row-test.true in
-    passed_refusal _ _ (period_number c.args.period) c.args.rows.now c.start-running.ensures.split (checking_passed _ _ _ _ _ _ cut _ c.loop-row.invariant c.in-default.ensures.after)
+    passed_refusal _ _ (period_number c.args.period) c.args.rows.now c.start-running.ensures.split (checking_passed _ _ _ _ _ _ cut _ c.loop-row.invariant c.in_default.ensures.after)
 
 pub loop-row-preserved : goal.loop-row-preserved
 loop-row-preserved c =

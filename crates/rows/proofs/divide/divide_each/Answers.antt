@@ -1,4 +1,4 @@
-use Rattle.std.proofs.Common.{◌≡◌, ◌<◌, ◌≤◌, true, false, length, sym, refl, ap, ◌∙◌, subst, arith}
+use Rattle.std.proofs.Common.{◌≡◌, ◌<◌, ◌≤◌, true, false, length, sym, refl, subst, arith}
 use Rattle.fault.specs.Values.{period_number}
 use Rattle.allocation.specs.declared.split.Split.{Split}
 use Rattle.rows.specs.Dividing.{adds_to, month_passed}

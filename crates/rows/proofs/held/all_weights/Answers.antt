@@ -1,4 +1,3 @@
-use Rattle.std.proofs.Common.{arith}
 use Rattle.rows.proofs.Adding.{none_added, one_added, one_signed, all_added}
 use Rattle.rows.proofs.held.all_weights.Goals as goal
 

@@ -1,4 +1,4 @@
-use Rattle.std.proofs.Common.{◌≡◌, ◌+◌, ◌-◌, ◌*◌, ◌%◌, ap, ◌∙◌, arith}
+use Rattle.std.proofs.Common.{◌*◌, ap, arith}
 use Rattle.allocation.proofs.Numbers.{product_within}
 use Rattle.rows.specs.Connections.{advance}
 use Rattle.rows.proofs.meter.advance.Goals as goal

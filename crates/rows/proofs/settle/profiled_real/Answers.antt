@@ -1,4 +1,4 @@
-use Rattle.std.proofs.Common.{◌≡◌, ◌^◌, ◌<◌, length, sym, ◌∙◌, arith, SFits, rules}
+use Rattle.std.proofs.Common.{◌^◌, ◌<◌, length, sym, arith, SFits, rules}
 use mir.Syntax.{w128}
 use Rattle.std.proofs.lemmas.Int.{to_z-of_z}
 use Rattle.rows.proofs.Settled.{none_summed, one_passed, one_summed, sum_fits, real_passed, all_summed}
