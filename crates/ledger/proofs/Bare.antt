@@ -1,24 +1,20 @@
 -- What a row holds within a quarter, and that nothing is booked to a group that no entry named. Assumes nothing.
-use Rattle.std.proofs.Common.{◌≡◌, ℕ, ◌+◌, ◌/◌, ◌%◌, ◌<◌, ◌≤◌, Bool, true, false, cond, eqb, ltb, List, [], ◌∷◌, map, get_or, ℤ, pos, ◌+ℤ◌, Some, None, Option, sym, refl, ap, ◌∙◌, subst, arith}
-use Rattle.std.proofs.lemmas.Bool.{both_ways, cases_Bool}
+use Rattle.std.proofs.Common.{◌≡◌, ℕ, ◌+◌, ◌/◌, ◌%◌, ◌<◌, true, false, cond, eqb, ltb, List, [], ◌∷◌, ℤ, pos, sym, refl, ap, ◌∙◌, subst, arith}
+use Rattle.std.proofs.lemmas.Bool.{both_ways}
 use Rattle.std.proofs.lemmas.Bool.Decides.{nat_tests}
-use Rattle.profile.specs.Weights.{weight_meant}
 use Rattle.rows.specs.declared.group.Group.{Group}
 use Rattle.rows.specs.Registers.{register}
-use Rattle.rows.specs.Weighing.{or_zero}
 use Rattle.rows.specs.Groups.{group_named}
-use Rattle.tables.specs.BookRows.{connection_rules, group_rules}
+use Rattle.tables.specs.BookRows.{group_rules}
 use Rattle.tables.specs.Rules.{same}
-use Rattle.tables.proofs.Finding.{same_equal}
-use Rattle.ledger.specs.Checks.{first}
-use Rattle.ledger.specs.Events.{Move, Turn, Event, History, Phase, enrols, reads, switches, leaves, opens, posts, weighs, puts_back, divides, withdraws, settles, moved, turned, move_refused, turn_refused, wants, phase, between, gathering, slip, settled}
+use Rattle.ledger.specs.Events.{Event, History, Phase, enrols, reads, switches, leaves, opens, posts, weighs, puts_back, divides, withdraws, settles, moved, turned, move_refused, turn_refused, phase, between, gathering, slip, settled}
 use Rattle.ledger.specs.Histories.{Start, Admitted, turn_checks}
 use Rattle.ledger.specs.Keys.{listed, listing}
 use Rattle.ledger.specs.Postings.{measured}
-use Rattle.ledger.specs.Quantities.{done, period_now, connection, codes, known, group_of, standing_sum, weight, weights, residual, gets, wrote, posted_to, with_measured, allocated, counted}
-use Rattle.ledger.proofs.Basics.{connection_order, group_order, all_quiet, quiet}
+use Rattle.ledger.specs.Quantities.{period_now, known, group_of, standing_sum, weight, weights, residual, gets, wrote, posted_to, with_measured, allocated, counted}
+use Rattle.ledger.proofs.Basics.{group_order, all_quiet, quiet}
 use Rattle.ledger.proofs.Keyed.{same_is}
-use Rattle.ledger.proofs.Members.{Members, members, either_way, cond_const, known_stays, listed_self, listed_read}
+use Rattle.ledger.proofs.Members.{members, either_way, cond_const, known_stays, listed_self, listed_read}
 use Rattle.ledger.proofs.Standing.{standing_bare}
 
 -- what the quarter volumes of a group's row hold

@@ -1,13 +1,12 @@
 -- The two orders of keys, registers by number, and what the first check that speaks says of the others. Assumes nothing.
-use Rattle.std.proofs.Common.{◌≡◌, ℕ, zero, suc, ◌+◌, ◌-◌, ◌*◌, ◌/◌, ◌%◌, ◌<◌, ◌≤◌, Bool, true, false, cond, not, ◌&&◌, eqb, ltb, List, [], ◌∷◌, ◌++◌, map, get_or, Some, None, Option, sym, refl, ap, ◌∙◌, subst, ⊎_elim, arith}
-use Rattle.std.proofs.lemmas.Bool.{both_ways, cases_Bool}
+use Rattle.std.proofs.Common.{◌≡◌, ℕ, zero, suc, ◌<◌, Bool, true, false, cond, List, [], ◌∷◌, ◌++◌, get_or, Some, None, Option, refl, arith}
+use Rattle.std.proofs.lemmas.Bool.{both_ways}
 use Rattle.std.proofs.lemmas.Bool.Decides.{nat_tests}
 use Rattle.fault.specs.declared.cause.Fault.{Fault}
 use Rattle.rows.specs.declared.connection.ConnectionRow.{ConnectionRow}
 use Rattle.rows.specs.declared.group.Group.{Group}
 use Rattle.rows.specs.Groups.{group_less}
 use Rattle.rows.specs.Registers.{four, two, any_register}
-use Rattle.rows.specs.Weighing.{or_else}
 use Rattle.tables.specs.BookRows.{code, connection_rules, group_rules}
 use Rattle.tables.specs.Rules.{TotalOrder, look}
 use Rattle.ledger.specs.Checks.{Check, first, when, of_connection}

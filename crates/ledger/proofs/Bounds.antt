@@ -1,30 +1,29 @@
 -- How large the volumes of own tables become. Assumes nothing.
-use Rattle.std.proofs.Common.{◌≡◌, ℕ, zero, suc, ◌+◌, ◌-◌, ◌*◌, ◌/◌, ◌%◌, ◌<◌, ◌≤◌, Bool, true, false, cond, not, ◌&&◌, eqb, ltb, List, [], ◌∷◌, map, get_or, ℤ, pos, negsuc, ◌+ℤ◌, ◌-ℤ◌, neg_ℤ, nat_abs, Some, None, sym, refl, ap, ◌∙◌, subst, add-mul, one-mul, arith}
+use Rattle.std.proofs.Common.{◌≡◌, ℕ, zero, suc, ◌+◌, ◌*◌, ◌/◌, ◌%◌, ◌<◌, ◌≤◌, Bool, true, false, cond, eqb, ltb, List, [], ◌∷◌, ℤ, pos, ◌+ℤ◌, neg_ℤ, nat_abs, sym, refl, ap, subst, arith}
 use Rattle.std.proofs.lemmas.Int.{ints}
-use Rattle.std.proofs.lemmas.Bool.{both_ways}
 use Rattle.std.proofs.lemmas.Bool.Decides.{nat_tests}
-use Rattle.allocation.specs.Scale.{most_weights, most_residual, most_quarters}
+use Rattle.allocation.specs.Scale.{most_quarters}
 use Rattle.rows.specs.declared.connection.ConnectionRow.{ConnectionRow}
 use Rattle.rows.specs.declared.group.Group.{Group}
 use Rattle.rows.specs.Connections.{all_advances}
 use Rattle.rows.specs.Registers.{register, signed_in}
 use Rattle.rows.specs.Groups.{group_named}
-use Rattle.tables.specs.BookRows.{connection_rules, group_rules}
-use Rattle.tables.specs.Rules.{look, same}
-use Rattle.ledger.specs.Checks.{first, begin_checks, reading_checks, most_posted, most_advanced}
-use Rattle.ledger.specs.Events.{Move, Turn, Event, History, Phase, enrols, reads, switches, leaves, opens, posts, weighs, puts_back, divides, withdraws, settles, moved, turned, move_refused, turn_refused, phase, between, gathering, slip, settled}
-use Rattle.ledger.specs.Histories.{Start, Admitted, connections, groups, month_at, move_checks, turn_checks}
+use Rattle.tables.specs.BookRows.{group_rules}
+use Rattle.tables.specs.Rules.{same}
+use Rattle.ledger.specs.Checks.{begin_checks, reading_checks, most_posted, most_advanced}
+use Rattle.ledger.specs.Events.{History, Phase, enrols, reads, switches, leaves, opens, posts, weighs, puts_back, divides, withdraws, settles, moved, turned, move_refused, turn_refused, phase, between, gathering, slip, settled}
+use Rattle.ledger.specs.Histories.{Start, Admitted, connections, groups, month_at, turn_checks}
 use Rattle.ledger.specs.Keys.{listed, listing, total}
 use Rattle.ledger.specs.Postings.{measured, kind_direction, measured_volume, gross, with_posting}
-use Rattle.ledger.specs.Quantities.{done, period_now, posted, posted_to, with_measured, connection, codes, known, group_of, weights, residual, wrote, allocated, counted, advance_of, advanced, gets, weight}
+use Rattle.ledger.specs.Quantities.{done, period_now, posted, posted_to, with_measured, known, group_of, weights, residual, wrote, allocated, counted, advance_of, advanced, weight}
 use Rattle.ledger.proofs.Basics.{group_order, all_quiet, quiet, found}
-use Rattle.ledger.proofs.Keyed.{same_is, total_one, total_changed, total_grows, total_same}
-use Rattle.ledger.proofs.Members.{Members, members, either_way, cond_const, row_at, is_enrolled, listed_read}
-use Rattle.ledger.proofs.Bare.{apart, posted_bare, allocated_bare, counted_bare, period_small, gets_unlisted}
-use Rattle.ledger.proofs.Closing.{divide_adds, of_register}
+use Rattle.ledger.proofs.Keyed.{total_one, total_changed, total_grows}
+use Rattle.ledger.proofs.Members.{members, either_way, cond_const, is_enrolled, listed_read}
+use Rattle.ledger.proofs.Bare.{allocated_bare, counted_bare, gets_unlisted}
+use Rattle.ledger.proofs.Closing.{divide_adds}
 use Rattle.ledger.proofs.Shares.{wrote_size, wrote_within}
 use Rattle.ledger.proofs.Rows.{other}
-use Rattle.ledger.proofs.Slips.{Slip, slip_facts}
+use Rattle.ledger.proofs.Slips.{slip_facts}
 
 pub within : (n m : ℕ) → ltb m n ≡ false → n ≤ m
 within n m e = grind (arith, nat_tests)

@@ -1,26 +1,25 @@
 -- Each period closes: what was exchanged and lost in its divided quarters, and all allocated volumes, come to zero. Assumes nothing.
-use Rattle.std.proofs.Common.{◌≡◌, ℕ, zero, suc, ◌+◌, ◌-◌, ◌*◌, ◌/◌, ◌%◌, ◌<◌, ◌≤◌, Bool, true, false, cond, not, ◌&&◌, eqb, ltb, List, [], ◌∷◌, map, ℤ, pos, negsuc, ◌+ℤ◌, ◌-ℤ◌, neg_ℤ, nat_abs, sym, refl, ap, ◌∙◌, subst, add-zero, add_assoc, zero-add, arith}
+use Rattle.std.proofs.Common.{◌≡◌, ℕ, zero, suc, ◌+◌, ◌/◌, ◌%◌, ◌<◌, Bool, true, false, cond, eqb, List, [], ◌∷◌, ℤ, pos, ◌+ℤ◌, ◌-ℤ◌, neg_ℤ, sym, refl, ap, ◌∙◌, add-zero, add_assoc, zero-add, arith}
 use Rattle.std.proofs.lemmas.Int.{ints}
-use Rattle.std.proofs.lemmas.Bool.{both_ways, cases_Bool}
 use Rattle.std.proofs.lemmas.Bool.Decides.{nat_tests}
-use Rattle.allocation.specs.Correction.{residual_of, share, correction_of, profiled, corrected}
+use Rattle.allocation.specs.Correction.{share, correction_of, corrected}
 use Rattle.allocation.proofs.Shares.{share_start, share_none, share_whole}
 use Rattle.rows.specs.declared.group.Group.{Group}
 use Rattle.rows.specs.Registers.{register, way}
 use Rattle.rows.specs.Groups.{group_named}
 use Rattle.tables.specs.BookRows.{group_rules}
 use Rattle.tables.specs.Rules.{same}
-use Rattle.ledger.specs.Events.{Move, Turn, Event, History, enrols, reads, switches, leaves, opens, posts, weighs, puts_back, divides, withdraws, settles, moved, turned, move_refused, turn_refused, phase, slip}
+use Rattle.ledger.specs.Events.{History, enrols, reads, switches, leaves, opens, posts, weighs, puts_back, divides, withdraws, settles, moved, turned, move_refused, turn_refused, phase, slip}
 use Rattle.ledger.specs.Histories.{Start, Admitted}
 use Rattle.ledger.specs.Keys.{listed, listing, Ordered, total, net}
 use Rattle.ledger.specs.Postings.{measured, kind_direction, measured_volume, exchange, measurement, losses, with_posting}
-use Rattle.ledger.specs.Quantities.{period_now, posted, posted_to, with_measured, connection, known, weight, weights, weights_net, residual, gets, wrote, allocated, posted_in, exchange_in, measurement_in, losses_in}
+use Rattle.ledger.specs.Quantities.{period_now, posted, posted_to, with_measured, known, weight, weights, weights_net, residual, gets, wrote, allocated, exchange_in, losses_in}
 use Rattle.ledger.proofs.Basics.{group_order}
-use Rattle.ledger.proofs.Keyed.{same_is, net_at, net_listing, net_listed, net_zero, net_same, net_sum, ahead_other}
-use Rattle.ledger.proofs.Members.{Members, members, either_way, cond_const}
-use Rattle.ledger.proofs.Bare.{posted_bare, allocated_bare, period_small, measured_elsewhere}
+use Rattle.ledger.proofs.Keyed.{net_at, net_listing, net_listed, net_zero, net_same, net_sum, ahead_other}
+use Rattle.ledger.proofs.Members.{members, either_way, cond_const}
+use Rattle.ledger.proofs.Bare.{posted_bare, allocated_bare, measured_elsewhere}
 use Rattle.ledger.proofs.Rows.{other, self}
-use Rattle.ledger.proofs.Slips.{Slip, slip_facts}
+use Rattle.ledger.proofs.Slips.{slip_facts}
 
 -- what was posted to a group, if it is of class 0
 abbrev pub measured_at : History → Group → ℤ

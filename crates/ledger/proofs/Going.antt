@@ -1,35 +1,31 @@
 -- Each entry is an event: what the model makes of state and tables is what the history with it leads to. Assumes nothing.
-use Rattle.std.proofs.Common.{◌≡◌, ℕ, ◌+◌, ◌<◌, Bool, true, false, cond, not, eqb, List, [], ◌∷◌, map, get_or, ℤ, pos, ◌+ℤ◌, ◌*ℤ◌, nat_abs, Some, None, sym, refl, ap, ◌∙◌, subst, arith}
+use Rattle.std.proofs.Common.{◌≡◌, ℕ, ◌+◌, ◌<◌, Bool, true, false, cond, not, eqb, List, [], ◌∷◌, map, ℤ, pos, ◌+ℤ◌, ◌*ℤ◌, nat_abs, None, sym, refl, ap, ◌∙◌, subst, arith}
 use Rattle.fault.specs.declared.cause.Fault.{Fault}
 use Rattle.allocation.specs.Correction.{corrected}
-use Rattle.profile.specs.Meanings.{Meaning}
-use Rattle.record.specs.declared.entry.Enrolment.{Enrolment}
 use Rattle.rows.specs.declared.connection.ConnectionRow.{ConnectionRow}
 use Rattle.rows.specs.declared.group.Group.{Group}
 use Rattle.rows.specs.declared.group.GroupRow.{GroupRow}
-use Rattle.rows.specs.Connections.{all_advances}
 use Rattle.rows.specs.Dividing.{both_held, volume_of}
 use Rattle.rows.specs.Dividing.{got_in as rows_got, priced as rows_priced}
 use Rattle.rows.specs.Registers.{way}
 use Rattle.tables.specs.BookRows.{group_rules}
-use Rattle.tables.specs.Rules.{same}
-use Rattle.ledger.specs.Checks.{Rooms, first, enrol_checks, read_checks, switch_checks, leave_checks, open_checks, post_checks, weigh_checks, divide_checks, settle_checks}
-use Rattle.ledger.specs.Events.{Move, Turn, Event, History, Phase, enrols, reads, switches, leaves, opens, posts, weighs, puts_back, divides, withdraws, settles, moved, turned, move_refused, turn_refused, wants, phase}
+use Rattle.ledger.specs.Checks.{first}
+use Rattle.ledger.specs.Events.{Move, History, Phase, enrols, reads, switches, leaves, divides, moved, turned, move_refused, phase}
 use Rattle.ledger.specs.Events.{between as Between, gathering as Gathering, slip as Slip, settled as Settled}
-use Rattle.ledger.specs.Histories.{Start, Admitted, sums_at, month_at, opened_at, weighed_at, state_in, state_at, connections, groups, move_checks, turn_checks}
+use Rattle.ledger.specs.Histories.{Start, Admitted, sums_at, month_at, opened_at, weighed_at, state_in, state_at, connections, groups, move_checks}
 use Rattle.ledger.specs.Keys.{Ordered, net}
 use Rattle.ledger.specs.Laws.{Reaches}
-use Rattle.ledger.specs.Model.{connection_at, read_month, gained, divide_month, weighing, divide_groups}
+use Rattle.ledger.specs.Model.{connection_at, read_month, gained, divide_month}
 use Rattle.ledger.specs.Postings.{each_kind}
 use Rattle.ledger.specs.Quantities.{done, period_now, price_now, posted, posted_in, volume_sum, value_sum, advanced, known, weight, weights, residual, wrote, gets, profiled_in, posted_to}
 use Rattle.ledger.specs.Quantities.{priced as priced_now}
-use Rattle.ledger.specs.States.{Sums, Month, Opened, Weighed, State, between, gathering, slip, settled}
+use Rattle.ledger.specs.States.{Month, Opened, Weighed, between, gathering, slip}
 use Rattle.ledger.specs.Steps.{Steps, BetweenSteps, GatheringSteps, SlipSteps}
 use Rattle.ledger.proofs.Basics.{group_order}
 use Rattle.ledger.proofs.Bare.{holds}
 use Rattle.ledger.proofs.Keyed.{net_listed, net_same, ahead_other}
-use Rattle.ledger.proofs.Members.{members, either_way, row_at, at_enrolled, listed_read}
-use Rattle.ledger.proofs.Rows.{ledger_row, self}
+use Rattle.ledger.proofs.Members.{members, at_enrolled, listed_read}
+use Rattle.ledger.proofs.Rows.{ledger_row}
 use Rattle.ledger.proofs.Slips.{weighing_is}
 use Rattle.ledger.proofs.Turns.{Weighted, weighted, first_gets, shown}
 

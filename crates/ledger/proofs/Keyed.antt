@@ -1,9 +1,9 @@
 -- Lists of keys in their order, and rows made from them. Assumes nothing.
-use Rattle.std.proofs.Common.{◌≡◌, ℕ, ◌+◌, ◌≤◌, Bool, true, false, cond, not, ◌&&◌, List, [], ◌∷◌, map, ℤ, pos, ◌+ℤ◌, Some, None, sym, refl, ap, ◌∙◌, subst, ⊎_elim, arith}
+use Rattle.std.proofs.Common.{◌≡◌, ℕ, ◌+◌, ◌≤◌, Bool, true, false, cond, List, [], ◌∷◌, map, ℤ, pos, ◌+ℤ◌, Some, None, sym, refl, ap, ◌∙◌, subst, ⊎_elim, arith}
 use Rattle.std.proofs.lemmas.Int.{ints}
-use Rattle.std.proofs.lemmas.Bool.{and_parts, both_ways, cases_Bool, cond-true, cond-false, not-true}
+use Rattle.std.proofs.lemmas.Bool.{and_parts, both_ways, cases_Bool, not-true}
 use Rattle.tables.specs.Rules.{Rules, TotalOrder, same, look, with_row, without, exchanged}
-use Rattle.tables.proofs.Finding.{not_after, not_same, not_same_before, not_same_after, same_equal}
+use Rattle.tables.proofs.Finding.{not_same_after, same_equal}
 use Rattle.ledger.specs.Keys.{listed, listing, unlisting, Ahead, Ordered, at_key, total, net}
 
 module _ {R K : Type 0} (rules : Rules R K) (order : TotalOrder rules.less) where

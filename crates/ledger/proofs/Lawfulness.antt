@@ -1,6 +1,5 @@
 -- Every history keeps all laws. Assumes nothing.
-use Rattle.std.proofs.Common.{◌≡◌, ℕ, zero, suc, ◌+◌, ◌/◌, ◌%◌, ◌<◌, ◌≤◌, Bool, true, false, cond, not, eqb, List, [], ◌∷◌, map, get_or, ℤ, pos, ◌+ℤ◌, Some, None, sym, refl, ap, ◌∙◌, subst, arith}
-use Rattle.std.proofs.lemmas.Bool.{both_ways}
+use Rattle.std.proofs.Common.{◌≡◌, ℕ, ◌/◌, ◌<◌, Bool, true, false, cond, eqb, List, [], ◌∷◌, map, get_or, ℤ, pos, ◌+ℤ◌, Some, sym, refl, ap, ◌∙◌, subst, arith}
 use Rattle.std.proofs.lemmas.Bool.Decides.{nat_tests}
 use Rattle.allocation.specs.Correction.{exact, Near}
 use Rattle.rows.specs.declared.connection.ConnectionRow.{ConnectionRow}
@@ -9,25 +8,23 @@ use Rattle.rows.specs.declared.group.GroupRow.{GroupRow}
 use Rattle.rows.specs.Registers.{register, way}
 use Rattle.rows.specs.Settling.{month_in, real_in}
 use Rattle.tables.specs.BookRows.{group_rules}
-use Rattle.ledger.specs.Events.{Move, Turn, Event, History, enrols, reads, switches, leaves, opens, posts, weighs, puts_back, divides, withdraws, settles, moved, turned, move_refused, turn_refused, phase, slip}
+use Rattle.ledger.specs.Events.{History, enrols, reads, switches, leaves, opens, posts, weighs, puts_back, divides, withdraws, settles, moved, turned, move_refused, turn_refused}
 use Rattle.ledger.specs.Histories.{Start, Admitted, connections, groups}
 use Rattle.ledger.specs.Keys.{listed, net}
 use Rattle.ledger.specs.Laws.{Shares, Latest, Counts, Lawful, Reaches, written_in}
-use Rattle.ledger.specs.Model.{group_at}
 use Rattle.ledger.specs.Quantities.{done, period_now, known, standing_sum, weight, weights, residual, wrote, posted_to, allocated, exchange_in, losses_in, gets}
 use Rattle.ledger.specs.States.{State}
-use Rattle.ledger.proofs.Basics.{group_order, four_read, two_read}
-use Rattle.ledger.proofs.Keyed.{map_map}
-use Rattle.ledger.proofs.Bare.{holds, period_small}
-use Rattle.ledger.proofs.Closing.{closing, allocated_at, divide_adds, of_register}
-use Rattle.ledger.proofs.Members.{Members, members, either_way}
+use Rattle.ledger.proofs.Basics.{four_read, two_read}
+use Rattle.ledger.proofs.Bare.{period_small}
+use Rattle.ledger.proofs.Closing.{closing, allocated_at, divide_adds}
+use Rattle.ledger.proofs.Members.{members, either_way}
 use Rattle.ledger.proofs.Own.{group_is, own_tables}
 use Rattle.ledger.proofs.PageProof.{page_law}
 use Rattle.ledger.proofs.Rows.{ledger_row}
 use Rattle.ledger.proofs.Settle.{month_row, real_row, settles_law}
 use Rattle.ledger.proofs.Shares.{wrote_near}
 use Rattle.ledger.proofs.Sizes.{codes_few, groups_few}
-use Rattle.ledger.proofs.Slips.{Slip, slip_facts}
+use Rattle.ledger.proofs.Slips.{slip_facts}
 use Rattle.ledger.proofs.Standing.{standing_bare}
 use Rattle.ledger.proofs.Turns.{shown, register_small}
 

@@ -1,6 +1,6 @@
 -- Who is enrolled: the table of connections is the history's. Assumes nothing.
-use Rattle.std.proofs.Common.{◌≡◌, ℕ, ◌+◌, ◌-◌, ◌<◌, ◌≤◌, Bool, true, false, cond, not, ◌&&◌, List, [], ◌∷◌, ◌++◌, map, get_or, is_some, Some, None, Option, sym, refl, ap, ◌∙◌, subst, ⊎_elim, arith}
-use Rattle.std.proofs.lemmas.Bool.{both_ways, cases_Bool}
+use Rattle.std.proofs.Common.{◌≡◌, ℕ, Bool, true, false, cond, not, ◌&&◌, List, [], ◌∷◌, map, is_some, Some, None, sym, refl, ap, ◌∙◌, subst, arith}
+use Rattle.std.proofs.lemmas.Bool.{both_ways}
 use Rattle.record.specs.declared.entry.Enrolment.{Enrolment}
 use Rattle.rows.specs.declared.connection.ConnectionRow.{ConnectionRow}
 use Rattle.rows.specs.declared.group.Group.{Group}
@@ -8,16 +8,16 @@ use Rattle.rows.specs.Groups.{group_named}
 use Rattle.tables.specs.BookRows.{connection_rules, group_rules}
 use Rattle.tables.specs.Rules.{Rules, look, same}
 use Rattle.tables.proofs.Finding.{same_equal}
-use Rattle.ledger.specs.Checks.{Check, first, of_connection, pair_checks, moving_checks}
-use Rattle.ledger.specs.Events.{Move, Turn, Event, History, enrols, reads, switches, leaves, opens, posts, weighs, puts_back, divides, withdraws, settles, moved, turned, move_refused, turn_refused}
+use Rattle.ledger.specs.Checks.{first, of_connection, pair_checks, moving_checks}
+use Rattle.ledger.specs.Events.{Turn, Event, History, enrols, reads, switches, leaves, opens, posts, weighs, puts_back, divides, withdraws, settles, moved, turned, move_refused, turn_refused}
 use Rattle.ledger.specs.Histories.{Start, Admitted, connections, groups, month_at, move_checks}
-use Rattle.ledger.specs.Keys.{listed, listing, unlisting, Ordered, total}
+use Rattle.ledger.specs.Keys.{listed, listing, unlisting, Ordered}
 use Rattle.ledger.specs.Laws.{connection_row}
 use Rattle.ledger.specs.Model.{connection_at, own_group}
 use Rattle.ledger.specs.Postings.{measured}
-use Rattle.ledger.specs.Quantities.{Connection, connection, codes, known, group_of, done, volume_in, standing_sum, enrolled, read_at, switched}
+use Rattle.ledger.specs.Quantities.{connection, codes, known, group_of, done}
 use Rattle.ledger.proofs.Basics.{connection_order, group_order, all_quiet, quiet, quiet_rest, found}
-use Rattle.ledger.proofs.Keyed.{same_is, look_made, without_made, with_row_made, exchanged_rows, ordered_listing, ordered_unlisting, listed_listing, listed_other, listed_none, total_others, total_listing, total_changed, total_unlisting, total_zero, total_one, total_same}
+use Rattle.ledger.proofs.Keyed.{same_is, look_made, without_made, with_row_made, exchanged_rows, ordered_listing, ordered_unlisting, listed_listing, listed_other, listed_none}
 
 pub same_comm : {R K : Type 0} (rules : Rules R K) (a b : K) → same rules a b ≡ same rules b a
 same_comm rules a b = turned_round (rules.less a b) (rules.less b a)

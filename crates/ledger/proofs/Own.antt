@@ -1,40 +1,38 @@
 -- What only foreign tables can give, own tables never give. Assumes nothing.
-use Rattle.std.proofs.Common.{◌≡◌, ℕ, zero, suc, ◌+◌, ◌-◌, ◌*◌, ◌/◌, ◌%◌, ◌<◌, ◌≤◌, Bool, true, false, cond, not, ◌&&◌, eqb, ltb, leb, List, [], ◌∷◌, ◌++◌, map, get_or, ℤ, pos, negsuc, ◌+ℤ◌, ◌-ℤ◌, neg_ℤ, nat_abs, is_some, Some, None, Option, sym, refl, ap, ◌∙◌, subst, arith}
+use Rattle.std.proofs.Common.{◌≡◌, ℕ, zero, suc, ◌+◌, ◌/◌, ◌%◌, ◌<◌, ◌≤◌, Bool, true, false, cond, not, ◌&&◌, eqb, ltb, List, [], ◌∷◌, ◌++◌, map, get_or, ℤ, pos, ◌+ℤ◌, neg_ℤ, nat_abs, is_some, Some, None, Option, sym, refl, ap, ◌∙◌, subst, arith}
 use Rattle.std.proofs.lemmas.Int.{ints}
 use Rattle.std.proofs.lemmas.Bool.{both_ways}
 use Rattle.std.proofs.lemmas.Bool.Decides.{nat_tests}
 use Rattle.fault.specs.declared.cause.Fault.{Fault}
 use Rattle.fault.specs.declared.cause.Fault.TheVariants.{OutOfRange, BadCode, CodePresent, NotEnrolled, StandTooLarge, NoPlace, MonthFull, MonthUnfinished, NotRead, FractionAbsent, ForeignTables, LimitPassed, NothingToShare, PageTooShort, NotAdmitted, UnknownKind, CutEntry}
-use Rattle.fault.specs.declared.cause.Limit.{Limit}
 use Rattle.fault.specs.declared.cause.Limit.TheVariants.{Weights, Residual, Postings, StandingSum, Advances, Volume}
 use Rattle.fault.specs.declared.cause.TableKind.TheVariants.{Groups}
-use Rattle.allocation.specs.Scale.{most_volume, most_quarters}
+use Rattle.allocation.specs.Scale.{most_volume}
 use Rattle.profile.specs.Meanings.{Meaning}
 use Rattle.rows.specs.declared.connection.ConnectionRow.{ConnectionRow}
 use Rattle.rows.specs.declared.group.Group.{Group}
 use Rattle.rows.specs.declared.group.GroupRow.{GroupRow}
 use Rattle.rows.specs.Connections.{all_advances, row_advance, span}
-use Rattle.rows.specs.Dividing.{all_unsigned, held_total, adds_to, month_passed, too_large, divided_rows, divided_row, both_held, unsigned, held}
+use Rattle.rows.specs.Dividing.{all_unsigned, held_total, adds_to, month_passed, too_large, divided_rows, divided_row, both_held, unsigned}
 use Rattle.rows.specs.Groups.{group_named, blank}
-use Rattle.rows.specs.Registers.{four, register, any_register, signed_in}
+use Rattle.rows.specs.Registers.{any_register, signed_in}
 use Rattle.rows.specs.Settling.{month_in, real_in, volume_passed}
 use Rattle.rows.specs.Weighing.{or_else, first_absent, row_absent, absent, row_weight}
 use Rattle.tables.specs.BookRows.{code, connection_rules, group_rules}
-use Rattle.tables.specs.Rules.{look, same}
-use Rattle.ledger.specs.Checks.{Check, first, when, foreign, missing, most_posted, most_advanced, of_connection, stand_checks, naming_checks, gathering_checks, full, booking_checks, reading_checks, pair_checks, moving_checks, leaving_checks, first_unread, volume_checks, memory_checks, page_checks}
+use Rattle.tables.specs.Rules.{look}
+use Rattle.ledger.specs.Checks.{Check, first, when, foreign, missing, most_posted, most_advanced, of_connection, stand_checks, naming_checks, gathering_checks, full, booking_checks, reading_checks, pair_checks, moving_checks, leaving_checks, first_unread, volume_checks, memory_checks}
 use Rattle.ledger.specs.Events.{Move, Turn, Event, History, enrols, reads, switches, leaves, opens, posts, weighs, puts_back, divides, withdraws, settles, moved, turned, move_refused, turn_refused, wants, phase, between, slip, settled}
-use Rattle.ledger.specs.Histories.{Start, Admitted, connections, groups, month_at, opened_at, weighed_at, move_checks, turn_checks}
+use Rattle.ledger.specs.Histories.{Start, Admitted, connections, groups, month_at, opened_at, move_checks, turn_checks}
 use Rattle.ledger.specs.Keys.{listed, total}
 use Rattle.ledger.specs.Laws.{NotForeign, Own}
-use Rattle.ledger.specs.Model.{quarter, group_at, own_group}
+use Rattle.ledger.specs.Model.{quarter, group_at}
 use Rattle.ledger.specs.Postings.{gross, measured, kind_direction, measured_volume}
 use Rattle.ledger.specs.Quantities.{done, period_now, posted, posted_to, connection, codes, known, group_of, standing_sum, weight, weights, residual, wrote, allocated, counted, real, advanced, advance_of}
-use Rattle.ledger.specs.States.{Month}
-use Rattle.ledger.proofs.Basics.{connection_order, group_order, four_read, two_read, all_registers}
+use Rattle.ledger.proofs.Basics.{group_order, four_read, two_read, all_registers}
 use Rattle.ledger.proofs.Keyed.{look_made}
-use Rattle.ledger.proofs.Members.{Members, members, either_way, row_at, looked}
+use Rattle.ledger.proofs.Members.{members, either_way, row_at, looked}
 use Rattle.ledger.proofs.Standing.{standing_own}
-use Rattle.ledger.proofs.Bare.{holds, holds_posted, holds_weights, period_small}
+use Rattle.ledger.proofs.Bare.{holds, holds_posted, holds_weights}
 use Rattle.ledger.proofs.Bounds.{quarters_small, done_within, done_small, gross_within, posted_within, wrote_small, divide_size, allocated_within, advanced_within, counted_within, signed_size, one_of_four, most_booked, half_small}
 use Rattle.ledger.proofs.Rows.{ledger_row, row_bare}
 use Rattle.ledger.proofs.Settle.{month_row, real_row, totals_small}

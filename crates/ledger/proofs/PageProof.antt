@@ -1,41 +1,39 @@
 -- The page of a settled month: it is the history's, it can be read again, and it balances. Assumes nothing.
-use Rattle.std.proofs.Common.{◌≡◌, ℕ, zero, suc, ◌+◌, ◌-◌, ◌*◌, ◌/◌, ◌%◌, ◌<◌, ◌≤◌, Bool, true, false, cond, not, ◌&&◌, eqb, ltb, List, [], ◌∷◌, ◌++◌, map, length, get_or, ℤ, pos, negsuc, ◌+ℤ◌, ◌-ℤ◌, ◌*ℤ◌, neg_ℤ, nat_abs, Some, None, sym, refl, ap, ◌∙◌, subst, mul-le-mul, arith, lit<}
+use Rattle.std.proofs.Common.{◌≡◌, ℕ, zero, suc, ◌+◌, ◌*◌, ◌<◌, ◌≤◌, Bool, true, false, cond, eqb, ltb, List, [], ◌∷◌, ◌++◌, map, length, ℤ, pos, negsuc, ◌+ℤ◌, ◌-ℤ◌, ◌*ℤ◌, nat_abs, sym, refl, ap, ◌∙◌, subst, mul-le-mul, arith, lit<}
 use Rattle.std.proofs.lemmas.Int.{ints}
-use Rattle.std.proofs.lemmas.Bool.{both_ways}
 use Rattle.std.proofs.lemmas.Bool.Decides.{nat_tests}
 use Rattle.std.specs.List.{AllByRecursion as All}
 use Rattle.allocation.specs.declared.sums.Reconciled.{Reconciled}
 use Rattle.allocation.specs.Amounts.{settled as priced_line}
 use Rattle.allocation.specs.Scale.{most_volume, most_price, per_mwh}
-use Rattle.allocation.specs.Settling.{floor, price_of, value_at, amount_of}
+use Rattle.allocation.specs.Settling.{price_of, value_at, amount_of}
 use Rattle.allocation.proofs.Floors.{floor_within}
 use Rattle.allocation.proofs.Integers.{product_size}
-use Rattle.record.specs.declared.kind.PageKind.{PageKind}
 use Rattle.record.specs.declared.kind.PageKind.TheVariants as kinds
 use Rattle.record.specs.declared.page.GroupVolumes.{GroupVolumes}
 use Rattle.record.specs.declared.page.PageRecord.{PageRecord}
 use Rattle.record.specs.declared.page.PageRecord.TheVariants as records
-use Rattle.record.specs.Family.{Writable, bytes_of, run}
+use Rattle.record.specs.Family.{Writable, run}
 use Rattle.record.specs.Number.{Within}
 use Rattle.record.specs.Pages.{pages, page_kind_of}
-use Rattle.record.specs.Places.{Page, order}
+use Rattle.record.specs.Places.{order}
 use Rattle.record.specs.Places.{groups as group_kinds}
 use Rattle.record.proofs.FamilyLaws.{same_record, some_byte}
 use Rattle.record.proofs.PageLaws.{lawful}
 use Rattle.record.proofs.PlaceLaws.{page_is, length_page}
 use Rattle.rows.specs.declared.group.Group.{Group}
-use Rattle.rows.specs.Registers.{four, two, register}
+use Rattle.rows.specs.Registers.{two, register}
 use Rattle.tables.specs.BookRows.{group_rules}
 use Rattle.tables.specs.Rules.{same}
 use Rattle.ledger.specs.Checks.{begin_checks}
-use Rattle.ledger.specs.Events.{History, opens, posts, weighs, puts_back, divides, withdraws, settles, moved, turned, move_refused, turn_refused, phase, settled}
+use Rattle.ledger.specs.Events.{History, opens, posts, weighs, puts_back, divides, withdraws, settles, moved, turned, move_refused, turn_refused}
 use Rattle.ledger.specs.Histories.{Start, Admitted, groups, month_at, turn_checks}
 use Rattle.ledger.specs.Keys.{listed, total, net}
 use Rattle.ledger.specs.Laws.{PageLaw, volumes_in, page_in, line_in, page_line, record_volume, record_amount}
 use Rattle.ledger.specs.Pages.{Running, unpriced, page_size, volumes_of, settled_for, after_group, after_groups, running_in, register_record, group_records, period_record, page_of, page_records, page_bytes}
 use Rattle.ledger.specs.Postings.{gross}
 use Rattle.ledger.specs.Quantities.{done, period_now, price_now, posted, posted_in, known, allocated, real, priced, volume_sum, value_sum, price_in, losses_in, real_loss_in, loss_volume_in, reconciliation_of}
-use Rattle.ledger.proofs.Basics.{group_order, all_quiet, quiet, four_same, two_same}
+use Rattle.ledger.proofs.Basics.{all_quiet, quiet, four_same, two_same}
 use Rattle.ledger.proofs.Bounds.{quarters_small, done_small, gross_within, most_booked, within}
 use Rattle.ledger.proofs.Keyed.{map_map}
 use Rattle.ledger.proofs.Members.{either_way}

@@ -1,31 +1,24 @@
 -- The table of groups is the history's: each known group's row has its sums and volumes. Assumes nothing.
-use Rattle.std.proofs.Common.{◌≡◌, ℕ, ◌+◌, ◌-◌, ◌*◌, ◌/◌, ◌%◌, ◌<◌, ◌≤◌, Bool, true, false, cond, not, eqb, ltb, List, [], ◌∷◌, map, get_or, ℤ, pos, ◌+ℤ◌, Some, None, Option, sym, refl, ap, ◌∙◌, subst, arith}
-use Rattle.std.proofs.lemmas.Bool.{both_ways, cases_Bool}
-use Rattle.profile.specs.Meanings.{Meaning}
-use Rattle.profile.specs.Weights.{weight_meant}
+use Rattle.std.proofs.Common.{◌≡◌, ℕ, ◌+◌, ◌-◌, ◌<◌, true, false, cond, List, ◌∷◌, map, get_or, ℤ, pos, ◌+ℤ◌, None, sym, refl, ap, ◌∙◌, subst, arith}
 use Rattle.record.specs.declared.entry.Enrolment.{Enrolment}
 use Rattle.rows.specs.declared.group.Group.{Group}
 use Rattle.rows.specs.declared.group.GroupRow.{GroupRow}
-use Rattle.rows.specs.Dividing.{size, held, both_held, volume_of, divided_row, divided_rows}
-use Rattle.rows.specs.Groups.{group_named, blank, cleared, has_profile}
-use Rattle.rows.specs.Registers.{four, two, register, way, signed_in}
-use Rattle.rows.specs.Weighing.{or_zero, weight_in, weighed}
-use Rattle.allocation.specs.Correction.{corrected}
+use Rattle.rows.specs.Groups.{group_named, blank}
+use Rattle.rows.specs.Registers.{four, two, signed_in}
 use Rattle.tables.specs.BookRows.{connection_rules, group_rules}
 use Rattle.tables.specs.Rules.{same}
 use Rattle.tables.proofs.Finding.{same_equal}
 use Rattle.ledger.specs.Checks.{first}
-use Rattle.ledger.specs.Events.{Move, Turn, Event, History, enrols, reads, switches, leaves, opens, posts, weighs, puts_back, divides, withdraws, settles, moved, turned, move_refused, turn_refused, phase, slip}
-use Rattle.ledger.specs.Histories.{Start, Admitted, connections, groups, move_checks}
-use Rattle.ledger.specs.Keys.{listed, listing, Ordered, at_key}
-use Rattle.ledger.specs.Model.{quarter, own_group, new_group, joined, parted, advanced_row, posted_row, at_group, connection_at, switch_groups}
-use Rattle.ledger.specs.Postings.{measured}
-use Rattle.ledger.specs.Quantities.{done, period_now, connection, codes, known, group_of, standing_sum, weight, weights, residual, gets, wrote, posted_to, allocated, counted, advance_of}
-use Rattle.ledger.proofs.Basics.{connection_order, group_order, four_read, four_same, two_read, two_same}
-use Rattle.ledger.proofs.Keyed.{same_is, at_key_made, listing_listed, map_map, map_same, map_listed, ahead_other}
-use Rattle.ledger.proofs.Members.{Members, members, either_way, cond_const, same_comm, row_at, at_enrolled, unlisted_enrol, listed_read, listed_switch, listed_leave}
-use Rattle.ledger.proofs.Standing.{standing_enrol, standing_read, standing_switch, standing_leave, standing_own, standing_bare}
-use Rattle.ledger.proofs.Bare.{holds, holds_posted, holds_weights, holds_bare, allocated_bare, counted_bare, period_small, measured_elsewhere}
+use Rattle.ledger.specs.Events.{History, enrols, reads, switches, leaves, moved}
+use Rattle.ledger.specs.Histories.{Start, Admitted, groups, move_checks}
+use Rattle.ledger.specs.Keys.{listed}
+use Rattle.ledger.specs.Model.{own_group, joined, parted, advanced_row, at_group, switch_groups}
+use Rattle.ledger.specs.Quantities.{connection, codes, known, group_of, standing_sum, allocated, counted, advance_of}
+use Rattle.ledger.proofs.Basics.{group_order, four_read, four_same, two_same}
+use Rattle.ledger.proofs.Keyed.{same_is, at_key_made, listing_listed, map_same}
+use Rattle.ledger.proofs.Members.{members, either_way, same_comm, row_at, at_enrolled, unlisted_enrol, listed_read, listed_switch, listed_leave}
+use Rattle.ledger.proofs.Standing.{standing_enrol, standing_read, standing_switch, standing_leave, standing_bare}
+use Rattle.ledger.proofs.Bare.{holds, holds_bare, allocated_bare, counted_bare}
 
 -- a row of these sums and volumes
 abbrev pub made : Group → (ℕ → ℕ) → (ℕ → ℤ) → (ℕ → ℤ) → (ℕ → ℤ) → GroupRow

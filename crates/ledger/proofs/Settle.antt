@@ -1,37 +1,31 @@
 -- A settled month balances. Assumes nothing.
-use Rattle.std.proofs.Common.{◌≡◌, ℕ, zero, suc, ◌+◌, ◌-◌, ◌*◌, ◌/◌, ◌%◌, ◌<◌, ◌≤◌, Bool, true, false, cond, not, ◌&&◌, eqb, ltb, List, [], ◌∷◌, ◌++◌, map, get_or, ℤ, pos, negsuc, ◌+ℤ◌, ◌-ℤ◌, neg_ℤ, nat_abs, Some, None, sym, refl, ap, ◌∙◌, subst, arith}
+use Rattle.std.proofs.Common.{◌≡◌, ℕ, zero, suc, ◌+◌, ◌<◌, ◌≤◌, Bool, true, false, cond, not, eqb, ltb, List, [], ◌∷◌, map, ℤ, pos, ◌+ℤ◌, ◌-ℤ◌, neg_ℤ, nat_abs, Some, None, sym, refl, ap, ◌∙◌, arith}
 use Rattle.std.proofs.lemmas.Int.{ints}
-use Rattle.std.proofs.lemmas.Bool.{both_ways}
 use Rattle.std.proofs.lemmas.Bool.Decides.{nat_tests}
 use Rattle.fault.specs.declared.cause.Fault.TheVariants.{LimitPassed}
 use Rattle.fault.specs.declared.cause.Limit.TheVariants.{Volume}
-use Rattle.allocation.specs.declared.sums.Reconciled.{Reconciled}
-use Rattle.allocation.specs.Amounts.{all_volumes, all_amounts, totals_refusal}
-use Rattle.allocation.specs.Amounts.{settled as priced_line}
-use Rattle.allocation.specs.Scale.{most_volume, most_quarters}
+use Rattle.allocation.specs.Amounts.{all_volumes, totals_refusal}
+use Rattle.allocation.specs.Scale.{most_volume}
 use Rattle.allocation.proofs.Money.{settles}
 use Rattle.rows.specs.declared.group.Group.{Group}
-use Rattle.rows.specs.declared.group.GroupRow.{GroupRow}
-use Rattle.rows.specs.Registers.{four, register}
+use Rattle.rows.specs.Registers.{register}
 use Rattle.rows.specs.Settling.{month_in, real_in, reconciliation, profiled_real, settle_line}
 use Rattle.rows.specs.Groups.{group_named}
 use Rattle.tables.specs.BookRows.{group_rules}
-use Rattle.tables.specs.Rules.{same}
-use Rattle.ledger.specs.Checks.{most_advanced}
-use Rattle.ledger.specs.Events.{Move, Turn, Event, History, enrols, reads, switches, leaves, opens, posts, weighs, divides, withdraws, moved, turned, move_refused, turn_refused, phase, slip}
+use Rattle.ledger.specs.Events.{History, enrols, reads, switches, leaves, opens, posts, weighs, divides, withdraws, moved, turned, move_refused, turn_refused}
 use Rattle.ledger.specs.Events.{puts_back as put_back_turn, settles as settle_turn}
 use Rattle.ledger.specs.Histories.{Start, Admitted, groups, month_at}
 use Rattle.ledger.specs.Keys.{listed, listing, total, net}
 use Rattle.ledger.specs.Laws.{Settles, line_in}
 use Rattle.ledger.specs.Pages.{unpriced, real_loss, loss_volume, settle_volumes}
-use Rattle.ledger.specs.Postings.{measured, measurement}
+use Rattle.ledger.specs.Postings.{measured}
 use Rattle.ledger.specs.Quantities.{done, period_now, posted, posted_to, known, wrote, allocated, counted, real, advanced, posted_in, exchange_in, measurement_in, losses_in, read_in, real_loss_in, loss_volume_in, price_in, reconciliation_of}
 use Rattle.ledger.proofs.Basics.{group_order, four_read}
-use Rattle.ledger.proofs.Keyed.{net_same, net_sum, net_listing, total_same}
-use Rattle.ledger.proofs.Members.{Members, members, either_way, cond_const}
-use Rattle.ledger.proofs.Bare.{allocated_bare, period_small}
-use Rattle.ledger.proofs.Bounds.{all_sizes, allocated_size, booked_within, counted_size, count_within, advanced_within, done_small, most_booked}
-use Rattle.ledger.proofs.Closing.{Closed, closing, allocated_at, measured_at, measured_sum, divide_adds, same_period, other_period}
+use Rattle.ledger.proofs.Keyed.{net_same, net_sum, net_listing}
+use Rattle.ledger.proofs.Members.{members, either_way, cond_const}
+use Rattle.ledger.proofs.Bare.{allocated_bare}
+use Rattle.ledger.proofs.Bounds.{all_sizes, allocated_size, booked_within, counted_size, count_within, advanced_within, done_small}
+use Rattle.ledger.proofs.Closing.{closing, allocated_at, measured_at, measured_sum, divide_adds, same_period, other_period}
 use Rattle.ledger.proofs.Rows.{ledger_row}
 use Rattle.ledger.proofs.Turns.{shown, register_small}
 

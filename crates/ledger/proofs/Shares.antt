@@ -1,22 +1,22 @@
 -- What a divide writes is less than a watt-hour from the exact corrected share, and how much it is in all. Assumes nothing.
-use Rattle.std.proofs.Common.{◌≡◌, ℕ, zero, suc, ◌+◌, ◌-◌, ◌*◌, ◌<◌, ◌≤◌, Bool, true, false, cond, not, ◌&&◌, eqb, List, [], ◌∷◌, map, ℤ, pos, negsuc, ◌+ℤ◌, ◌-ℤ◌, neg_ℤ, nat_abs, sym, refl, ap, ◌∙◌, subst, add-zero, add_assoc, arith}
+use Rattle.std.proofs.Common.{◌≡◌, ℕ, zero, suc, ◌+◌, ◌<◌, ◌≤◌, Bool, true, false, cond, eqb, List, [], ◌∷◌, ℤ, pos, ◌+ℤ◌, nat_abs, sym, refl, ap, ◌∙◌, subst, add-zero, add_assoc, arith}
 use Rattle.std.proofs.lemmas.Int.{ints}
 use Rattle.std.proofs.lemmas.Bool.{both_ways}
 use Rattle.fault.specs.declared.cause.Direction.{Direction}
 use Rattle.fault.specs.declared.cause.Direction.TheVariants.{Offtake, FeedIn}
 use Rattle.allocation.specs.Correction.{share, correction_of, profiled, corrected, exact, Near}
-use Rattle.allocation.proofs.Shares.{near, size_grows, share_start, share_within}
+use Rattle.allocation.proofs.Shares.{near, size_grows, share_within}
 use Rattle.rows.specs.declared.group.Group.{Group}
-use Rattle.rows.specs.Registers.{register, way}
+use Rattle.rows.specs.Registers.{way}
 use Rattle.tables.specs.BookRows.{group_rules}
 use Rattle.tables.specs.Rules.{same}
 use Rattle.ledger.specs.Events.{History}
 use Rattle.ledger.specs.Histories.{Start, Admitted}
-use Rattle.ledger.specs.Keys.{listed, Ordered, total, net}
-use Rattle.ledger.specs.Quantities.{period_now, known, standing_sum, weight, weights, residual, gets, wrote, posted_to}
+use Rattle.ledger.specs.Keys.{listed, Ordered, total}
+use Rattle.ledger.specs.Quantities.{known, weight, weights, residual, gets, wrote, posted_to}
 use Rattle.ledger.proofs.Basics.{group_order}
 use Rattle.ledger.proofs.Keyed.{same_is, total_same, ahead_other}
-use Rattle.ledger.proofs.Members.{Members, members, either_way}
+use Rattle.ledger.proofs.Members.{members, either_way}
 use Rattle.ledger.proofs.Standing.{standing_bare}
 use Rattle.ledger.proofs.Bare.{gets_unlisted, weight_none}
 use Rattle.ledger.proofs.Rows.{self}

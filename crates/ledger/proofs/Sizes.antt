@@ -1,5 +1,5 @@
 -- Own tables hold no more rows than they may, and name only parties and classes in range. Assumes nothing.
-use Rattle.std.proofs.Common.{◌≡◌, ℕ, zero, suc, ◌+◌, ◌-◌, ◌*◌, ◌<◌, ◌≤◌, min, Bool, true, false, cond, not, ◌&&◌, eqb, ltb, leb, List, [], ◌∷◌, ◌++◌, map, length, get_or, ℤ, pos, ◌+ℤ◌, ◌*ℤ◌, nat_abs, is_some, Some, None, Option, sym, refl, ap, ◌∙◌, subst, arith}
+use Rattle.std.proofs.Common.{◌≡◌, ℕ, suc, ◌+◌, ◌≤◌, min, Bool, true, false, cond, not, ◌&&◌, ltb, List, [], ◌∷◌, ◌++◌, map, length, is_some, Some, None, sym, refl, ap, ◌∙◌, subst, arith}
 use Rattle.std.proofs.lemmas.Bool.{both_ways}
 use Rattle.std.proofs.lemmas.Bool.Decides.{nat_tests}
 use Rattle.record.specs.declared.entry.Enrolment.{Enrolment}
@@ -7,17 +7,17 @@ use Rattle.rows.specs.declared.connection.ConnectionRow.{ConnectionRow}
 use Rattle.rows.specs.declared.group.Group.{Group}
 use Rattle.rows.specs.Groups.{group_named}
 use Rattle.tables.specs.BookRows.{connection_rules, group_rules}
-use Rattle.tables.specs.Rules.{Rules, look, same}
-use Rattle.ledger.specs.Checks.{Check, first, full, missing, outside, elsewhere, largest_party, of_connection, pair_checks, moving_checks, naming_checks, gathering_checks, wrong_party}
-use Rattle.ledger.specs.Events.{Move, Turn, Event, History, enrols, reads, switches, leaves, opens, posts, weighs, puts_back, divides, withdraws, settles, moved, turned, move_refused, turn_refused, phase}
-use Rattle.ledger.specs.Histories.{Start, Admitted, connections, groups, month_at, opened_at, move_checks, turn_checks}
-use Rattle.ledger.specs.Keys.{listed, listing, unlisting, Ordered}
-use Rattle.ledger.specs.Model.{own_group, new_group}
+use Rattle.tables.specs.Rules.{Rules, same}
+use Rattle.ledger.specs.Checks.{Check, first, full, missing, outside, elsewhere, largest_party, of_connection, pair_checks, moving_checks, wrong_party}
+use Rattle.ledger.specs.Events.{History, enrols, reads, switches, leaves, opens, posts, weighs, puts_back, divides, withdraws, settles, moved, turned, move_refused, turn_refused}
+use Rattle.ledger.specs.Histories.{Start, Admitted, connections, groups, month_at, move_checks, turn_checks}
+use Rattle.ledger.specs.Keys.{listed, listing, unlisting}
+use Rattle.ledger.specs.Model.{new_group}
 use Rattle.ledger.specs.Postings.{measured}
 use Rattle.ledger.specs.Quantities.{connection, codes, known, group_of}
-use Rattle.ledger.proofs.Basics.{group_order, connection_order, all_quiet, AllQuiet, quiet, quiet_rest, found}
+use Rattle.ledger.proofs.Basics.{group_order, all_quiet, quiet, quiet_rest, found}
 use Rattle.ledger.proofs.Keyed.{same_is, listing_listed, listed_listing}
-use Rattle.ledger.proofs.Members.{Members, members, either_way, row_at, is_enrolled, listed_switch, unlisted_enrol}
+use Rattle.ledger.proofs.Members.{members, either_way, row_at, is_enrolled, listed_switch}
 use Rattle.ledger.proofs.Own.{group_look}
 use Rattle.ledger.proofs.Rows.{ledger_row}
 use Rattle.ledger.proofs.Turns.{shown}

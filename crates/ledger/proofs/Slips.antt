@@ -1,7 +1,7 @@
 -- What holds while a slip is out: T and R are the history's, within their limits, and every fraction that was needed was there. Assumes nothing.
-use Rattle.std.proofs.Common.{◌≡◌, ℕ, ◌+◌, ◌<◌, ◌≤◌, Bool, true, false, cond, not, ◌&&◌, eqb, ltb, List, [], ◌∷◌, map, get_or, ℤ, pos, negsuc, ◌+ℤ◌, ◌-ℤ◌, nat_abs, Some, None, Option, sym, refl, ap, ◌∙◌, subst, arith}
+use Rattle.std.proofs.Common.{◌≡◌, ℕ, ◌+◌, ◌<◌, ◌≤◌, Bool, true, false, cond, not, ◌&&◌, eqb, ltb, List, [], ◌∷◌, map, get_or, ℤ, pos, ◌+ℤ◌, ◌-ℤ◌, nat_abs, Some, None, Option, sym, refl, ap, ◌∙◌, subst, arith}
 use Rattle.std.proofs.lemmas.Int.{ints}
-use Rattle.std.proofs.lemmas.Bool.{both_ways, cases_Bool}
+use Rattle.std.proofs.lemmas.Bool.{both_ways}
 use Rattle.std.proofs.lemmas.Bool.Decides.{nat_tests}
 use Rattle.fault.specs.declared.cause.Fault.{Fault}
 use Rattle.allocation.specs.Correction.{residual_of}
@@ -11,15 +11,14 @@ use Rattle.profile.specs.Weights.{weight_meant}
 use Rattle.rows.specs.declared.group.Group.{Group}
 use Rattle.rows.specs.declared.group.GroupRow.{GroupRow}
 use Rattle.rows.specs.Registers.{four, register}
-use Rattle.rows.specs.Weighing.{weight_in, row_weight, row_absent, absent, first_absent, or_else, weights_total}
+use Rattle.rows.specs.Weighing.{row_weight, row_absent, absent, first_absent, or_else, weights_total}
 use Rattle.rows.specs.Weighing.{weights_net as rows_net}
 use Rattle.tables.specs.BookRows.{group_rules}
 use Rattle.tables.specs.Rules.{same}
-use Rattle.ledger.specs.Checks.{weigh_checks}
-use Rattle.ledger.specs.Events.{Turn, Event, History, opens, posts, weighs, puts_back, divides, withdraws, settles, moved, turned, move_refused, turn_refused, phase, between, gathering, slip, settled}
+use Rattle.ledger.specs.Events.{History, opens, posts, weighs, puts_back, divides, withdraws, settles, moved, turned, move_refused, turn_refused, phase, between, gathering, slip, settled}
 use Rattle.ledger.specs.Histories.{Start, Admitted, groups, opened_at, weighed_at, turn_checks}
 use Rattle.ledger.specs.Keys.{listed, total, net}
-use Rattle.ledger.specs.Model.{quarter, weighing, residual_at}
+use Rattle.ledger.specs.Model.{quarter, weighing}
 use Rattle.ledger.specs.Postings.{exchange, measurement, losses}
 use Rattle.ledger.specs.Quantities.{done, period_now, posted, known, standing_sum, weight, weights, weights_net, residual, meant}
 use Rattle.ledger.specs.States.{Weighed}

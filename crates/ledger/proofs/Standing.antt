@@ -1,6 +1,6 @@
 -- Standing sums from entry to entry. Assumes nothing.
-use Rattle.std.proofs.Common.{◌≡◌, ℕ, ◌+◌, ◌≤◌, Bool, true, false, cond, List, [], ◌∷◌, get_or, sym, refl, ap, ◌∙◌, subst, arith}
-use Rattle.std.proofs.lemmas.Bool.{both_ways, cases_Bool}
+use Rattle.std.proofs.Common.{◌≡◌, ℕ, ◌+◌, ◌≤◌, true, false, cond, List, ◌∷◌, get_or, refl, ap, ◌∙◌, subst}
+use Rattle.std.proofs.lemmas.Bool.{both_ways}
 use Rattle.record.specs.declared.entry.Enrolment.{Enrolment}
 use Rattle.rows.specs.declared.group.Group.{Group}
 use Rattle.rows.specs.Groups.{group_named}
@@ -8,7 +8,7 @@ use Rattle.tables.specs.BookRows.{connection_rules, group_rules}
 use Rattle.tables.specs.Rules.{same}
 use Rattle.tables.proofs.Finding.{same_equal}
 use Rattle.ledger.specs.Events.{History, enrols, reads, switches, leaves, moved}
-use Rattle.ledger.specs.Keys.{listed, total}
+use Rattle.ledger.specs.Keys.{listed}
 use Rattle.ledger.specs.Quantities.{connection, codes, known, group_of, volume_in, standing_sum}
 use Rattle.ledger.proofs.Basics.{connection_order, group_order}
 use Rattle.ledger.proofs.Keyed.{same_is, total_listing, total_changed, total_unlisting, total_zero, total_one, total_same}

@@ -1,27 +1,26 @@
 -- The rows of groups from turn to turn of a quarter. Assumes nothing.
-use Rattle.std.proofs.Common.{◌≡◌, ℕ, ◌+◌, ◌-◌, ◌*◌, ◌/◌, ◌%◌, ◌<◌, ◌≤◌, Bool, true, false, cond, not, eqb, ltb, List, [], ◌∷◌, map, get_or, ℤ, pos, ◌+ℤ◌, Some, None, Option, sym, refl, ap, ◌∙◌, subst, arith}
-use Rattle.std.proofs.lemmas.Bool.{both_ways, cases_Bool}
+use Rattle.std.proofs.Common.{◌≡◌, ℕ, ◌+◌, ◌/◌, ◌%◌, ◌<◌, Bool, true, false, cond, not, eqb, List, [], ◌∷◌, map, get_or, ℤ, pos, ◌+ℤ◌, sym, refl, ap, ◌∙◌, arith}
+use Rattle.std.proofs.lemmas.Bool.{both_ways}
 use Rattle.profile.specs.Meanings.{Meaning}
 use Rattle.profile.specs.Weights.{weight_meant}
 use Rattle.rows.specs.declared.group.Group.{Group}
 use Rattle.rows.specs.declared.group.GroupRow.{GroupRow}
-use Rattle.rows.specs.Dividing.{size, held, both_held, volume_of, divided_row, divided_rows}
-use Rattle.rows.specs.Groups.{group_named, blank, cleared, has_profile}
+use Rattle.rows.specs.Dividing.{held, both_held, volume_of, divided_row, divided_rows}
+use Rattle.rows.specs.Groups.{group_named, blank, cleared}
 use Rattle.rows.specs.Registers.{four, two, register, way}
 use Rattle.rows.specs.Weighing.{or_zero, weight_in, weighed}
 use Rattle.allocation.specs.Correction.{corrected}
 use Rattle.tables.specs.BookRows.{group_rules}
 use Rattle.tables.specs.Rules.{same}
-use Rattle.tables.proofs.Finding.{same_equal}
-use Rattle.ledger.specs.Events.{Move, Turn, Event, History, enrols, reads, switches, leaves, opens, posts, weighs, puts_back, divides, withdraws, settles, moved, turned, move_refused, turn_refused, phase, slip}
+use Rattle.ledger.specs.Events.{Turn, History, enrols, reads, switches, leaves, opens, posts, weighs, puts_back, divides, withdraws, settles, moved, turned, move_refused, turn_refused, phase, slip}
 use Rattle.ledger.specs.Histories.{Start, Admitted, groups}
-use Rattle.ledger.specs.Keys.{listed, listing, Ahead, Ordered}
+use Rattle.ledger.specs.Keys.{listing, Ordered}
 use Rattle.ledger.specs.Model.{quarter, posted_row, at_group, post_groups}
 use Rattle.ledger.specs.Postings.{measured, kind_direction, measured_volume}
-use Rattle.ledger.specs.Quantities.{done, period_now, known, standing_sum, weight, weights, residual, gets, wrote, posted_to, allocated, counted, with_measured}
+use Rattle.ledger.specs.Quantities.{done, period_now, known, standing_sum, weight, weights, residual, gets, wrote, posted_to, allocated, counted}
 use Rattle.ledger.proofs.Basics.{group_order, four_read, two_read, two_same, four_same}
-use Rattle.ledger.proofs.Keyed.{same_is, at_key_made, map_map, map_same, map_listed, ahead_other}
-use Rattle.ledger.proofs.Members.{Members, members, either_way, cond_const}
+use Rattle.ledger.proofs.Keyed.{at_key_made, map_map, map_same, map_listed, ahead_other}
+use Rattle.ledger.proofs.Members.{members, either_way}
 use Rattle.ledger.proofs.Bare.{holds, holds_posted, holds_weights, period_small, measured_elsewhere}
 use Rattle.ledger.proofs.Rows.{made, made_same, ledger_row, row_bare, Shown, other, self, rows_enrol, rows_read, rows_switch, rows_leave}
 

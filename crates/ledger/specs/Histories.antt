@@ -1,9 +1,9 @@
 -- What a history leads to: state and tables, entry by entry, and which histories there are. Assumes nothing.
-use Rattle.std.specs.Prelude.{◌≡◌, ℕ, cond, List, [], ◌∷◌, ℤ, pos, Some, None}
+use Rattle.std.specs.Prelude.{◌≡◌, ℕ, List, [], ◌∷◌, Some, None}
 use Rattle.rows.specs.declared.connection.ConnectionRow.{ConnectionRow}
 use Rattle.rows.specs.declared.group.GroupRow.{GroupRow}
 use Rattle.ledger.specs.Checks.{Check, Rooms, first, begin_checks, enrol_checks, read_checks, switch_checks, leave_checks, open_checks, post_checks, weigh_checks, divide_checks, settle_checks}
-use Rattle.ledger.specs.Events.{Move, Turn, Event, History, Phase, enrols, reads, switches, leaves, opens, posts, weighs, puts_back, divides, withdraws, settles, moved, turned, move_refused, turn_refused, wants, phase}
+use Rattle.ledger.specs.Events.{Move, Turn, History, Phase, enrols, reads, switches, leaves, opens, posts, weighs, puts_back, divides, withdraws, settles, moved, turned, move_refused, turn_refused, wants, phase}
 use Rattle.ledger.specs.Events.{between as Between, gathering as Gathering, slip as Slip, settled as Settled}
 use Rattle.ledger.specs.Model.{connection_at, enrol_connections, enrol_groups, read_connections, read_groups, switch_connections, switch_groups, leave_connections, leave_groups, cleared_groups, post_groups, weigh_groups, divide_groups}
 use Rattle.ledger.specs.Postings.{each_kind}

@@ -1,5 +1,5 @@
 -- The laws of every month, after every event of its history. Assumes nothing.
-use Rattle.std.specs.Prelude.{◌≡◌, ℕ, ◌+◌, ◌%◌, ◌<◌, ◌≤◌, Bool, false, cond, List, [], ◌∷◌, ◌++◌, map, length, ℤ, pos, ◌+ℤ◌, ◌-ℤ◌, Some, None, Option, ◌==◌, ◌≢◌, slice_index, slice_index_or}
+use Rattle.std.specs.Prelude.{◌≡◌, ℕ, ◌%◌, ◌<◌, ◌≤◌, Bool, false, cond, List, [], ◌∷◌, map, length, ℤ, pos, ◌+ℤ◌, Some, ◌==◌, ◌≢◌, slice_index, slice_index_or}
 use Rattle.std.specs.List.{AllByRecursion as All}
 use Rattle.fault.specs.declared.cause.Fault.TheVariants.{ForeignTables, LimitPassed}
 use Rattle.fault.specs.declared.cause.Limit.TheVariants.{Volume}
@@ -10,24 +10,24 @@ use Rattle.allocation.specs.Correction.{exact, Near}
 use Rattle.record.specs.declared.page.GroupVolumes.{GroupVolumes}
 use Rattle.record.specs.declared.page.PageRecord.{PageRecord}
 use Rattle.record.specs.declared.page.PageRecord.TheVariants.{Head, Group, Period, Register, Refusal}
-use Rattle.record.specs.Family.{Writable, Begins, run}
+use Rattle.record.specs.Family.{Writable, run}
 use Rattle.record.specs.Pages.{pages}
 use Rattle.record.specs.Places.{Page}
 use Rattle.rows.specs.declared.connection.ConnectionRow.{ConnectionRow}
 use Rattle.rows.specs.declared.group.GroupRow.{GroupRow}
 use Rattle.rows.specs.declared.group.Group as groups_of_rows
 use Rattle.rows.specs.Registers.{four, two, register, way, signed_in}
-use Rattle.rows.specs.Settling.{month_in, real_in, reconciliation}
+use Rattle.rows.specs.Settling.{month_in, real_in}
 use Rattle.tables.specs.BookRows.{connection_rules, group_rules}
 use Rattle.tables.specs.Rules.{same}
 use Rattle.ledger.specs.Checks.{Check, first, page_checks}
-use Rattle.ledger.specs.Events.{Move, Turn, Event, History, enrols, reads, switches, leaves, opens, posts, weighs, puts_back, divides, withdraws, settles, moved, turned, move_refused, turn_refused, wants, phase, between, settled}
+use Rattle.ledger.specs.Events.{Move, Turn, History, enrols, reads, switches, leaves, opens, posts, weighs, puts_back, divides, withdraws, settles, moved, turned, move_refused, turn_refused, wants, phase, between, settled}
 use Rattle.ledger.specs.Histories.{Start, Admitted, state_at, month_at, connections, groups, move_checks, turn_checks}
 use Rattle.ledger.specs.Keys.{Ordered, net}
 use Rattle.ledger.specs.Model.{group_at}
-use Rattle.ledger.specs.Pages.{unpriced, settle_volumes, page_size, real_loss, loss_volume, page_of, page_records, page_bytes}
+use Rattle.ledger.specs.Pages.{unpriced, settle_volumes, page_size, real_loss, page_of, page_records, page_bytes}
 use Rattle.ledger.specs.Quantities.{Connection, connection, codes, known, standing_sum, done, period_now, meant, weight, weights, residual, wrote, posted_to, allocated, counted, real, group_of, advance_of, exchange_in, losses_in, price_in, real_loss_in, loss_volume_in, reconciliation_of}
-use Rattle.ledger.specs.States.{State, Month}
+use Rattle.ledger.specs.States.{State}
 
 abbrev Group' : Type 0
 Group' = groups_of_rows.Group

@@ -1,5 +1,5 @@
 -- What each accepted entry makes of the tables and of the numbers of a state. Assumes nothing.
-use Rattle.std.specs.Prelude.{ℕ, ◌+◌, ◌-◌, Bool, cond, List, map, ℤ, pos, ◌+ℤ◌, ◌*ℤ◌, Some, None, Option, ◌==◌, slice_index, slice_index_or}
+use Rattle.std.specs.Prelude.{ℕ, ◌+◌, ◌-◌, cond, List, map, ℤ, pos, ◌+ℤ◌, ◌*ℤ◌, Some, None, Option, ◌==◌, slice_index, slice_index_or}
 use Rattle.fault.specs.declared.cause.Quarter.{Quarter}
 use Rattle.allocation.specs.Correction.{residual_of}
 use Rattle.profile.specs.Meanings.{Meaning}
@@ -17,7 +17,7 @@ use Rattle.tables.specs.BookRows.{connection_rules, group_rules}
 use Rattle.tables.specs.Rules.{look, same, with_row, without, exchanged}
 use Rattle.ledger.specs.Keys.{at_key}
 use Rattle.ledger.specs.Postings.{each_kind, of_kind, with_posting, measured, kind_direction, measured_volume, exchange, measurement, losses}
-use Rattle.ledger.specs.States.{Sums, Month, Opened, Weighed, sums_of}
+use Rattle.ledger.specs.States.{Sums, Month, Opened, Weighed}
 
 abbrev pub quarter : ℕ → Quarter
 quarter n = record { 0 = n }

@@ -9,9 +9,9 @@ use Rattle.record.specs.Family.{run}
 use Rattle.record.specs.Pages.{pages}
 use Rattle.rows.specs.declared.group.GroupRow.{GroupRow}
 use Rattle.rows.specs.Registers.{four, two, register}
-use Rattle.rows.specs.Settling.{month_in, real_in, reconciliation, profiled_real, settle_line}
+use Rattle.rows.specs.Settling.{month_in, real_in, profiled_real, settle_line}
 use Rattle.ledger.specs.Postings.{of_kind, exchange, measurement, losses}
-use Rattle.ledger.specs.States.{Sums, Month, sums_of, period_price}
+use Rattle.ledger.specs.States.{Month, sums_of, period_price}
 
 -- X, M and L of a period
 abbrev pub period_exchange : Month → ℕ → ℤ

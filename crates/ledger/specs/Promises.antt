@@ -1,5 +1,5 @@
 -- The laws, each for every history, after every event. Assumes nothing.
-use Rattle.std.specs.Prelude.{◌≡◌, ℕ, ◌<◌, ◌≤◌, List, [], ◌∷◌, map, ℤ, pos, ◌+ℤ◌, Some, None, slice_index}
+use Rattle.std.specs.Prelude.{◌≡◌, ℕ, ◌<◌, List, ◌∷◌, map, pos, ◌+ℤ◌, Some, None, slice_index}
 use Rattle.fault.specs.declared.cause.Fault.{Fault}
 use Rattle.rows.specs.declared.connection.ConnectionRow.{ConnectionRow}
 use Rattle.rows.specs.declared.group.Group.{Group}
@@ -8,10 +8,10 @@ use Rattle.rows.specs.Registers.{register}
 use Rattle.rows.specs.Settling.{month_in, real_in}
 use Rattle.tables.specs.BookRows.{connection_rules, group_rules}
 use Rattle.ledger.specs.Checks.{first}
-use Rattle.ledger.specs.Events.{Move, Turn, History, divides, moved, turned, move_refused, turn_refused, wants, phase, between, settled}
+use Rattle.ledger.specs.Events.{Move, Turn, History, moved, turned, move_refused, turn_refused, wants, phase, between, settled}
 use Rattle.ledger.specs.Histories.{Start, Admitted, connections, groups, move_checks, turn_checks}
 use Rattle.ledger.specs.Keys.{Ordered, net}
-use Rattle.ledger.specs.Laws.{Lawful, Reaches, Own, Shares, Settles, PageLaw, Latest, Counts, connection_row}
+use Rattle.ledger.specs.Laws.{Lawful, Reaches, Own, Settles, PageLaw, Latest, Counts, connection_row}
 use Rattle.ledger.specs.Model.{group_at}
 use Rattle.ledger.specs.Quantities.{connection, codes, known, standing_sum, real, allocated, exchange_in, losses_in}
 use Rattle.ledger.specs.States.{State}

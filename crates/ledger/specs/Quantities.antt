@@ -1,6 +1,6 @@
 -- What the laws speak of, from the history alone: who is enrolled, what was posted, weighed, divided and read.
 -- Only accepted entries count. What is posted, weighed and written means something while a quarter is open; between quarters it is that of the last one. Assumes nothing.
-use Rattle.std.specs.Prelude.{ℕ, ◌+◌, ◌/◌, ◌%◌, Bool, cond, List, [], ◌∷◌, ℤ, pos, ◌+ℤ◌, ◌-ℤ◌, ◌*ℤ◌, neg_ℤ, ◌==◌, slice_index, unsigned_abs}
+use Rattle.std.specs.Prelude.{ℕ, ◌+◌, ◌/◌, ◌%◌, cond, List, [], ◌∷◌, ℤ, pos, ◌+ℤ◌, ◌-ℤ◌, ◌*ℤ◌, neg_ℤ, ◌==◌, slice_index, unsigned_abs}
 use Rattle.allocation.specs.Correction.{residual_of, corrected}
 use Rattle.allocation.specs.Settling.{price_of}
 use Rattle.profile.specs.Meanings.{Meaning}
@@ -16,7 +16,7 @@ use Rattle.rows.specs.Weighing.{or_zero}
 use Rattle.rows.specs.Groups.{group_named}
 use Rattle.tables.specs.BookRows.{connection_rules, group_rules}
 use Rattle.tables.specs.Rules.{same}
-use Rattle.ledger.specs.Events.{Move, Turn, Event, History, enrols, reads, switches, leaves, opens, posts, weighs, puts_back, divides, withdraws, settles, moved, turned, move_refused, turn_refused}
+use Rattle.ledger.specs.Events.{Turn, History, enrols, reads, switches, leaves, opens, posts, weighs, puts_back, divides, withdraws, settles, moved, turned, move_refused, turn_refused}
 use Rattle.ledger.specs.Keys.{listing, unlisting, total, net}
 use Rattle.ledger.specs.Postings.{measured, kind_direction, measured_volume, exchange, measurement, losses, with_posting}
 

@@ -6,12 +6,12 @@ use Rattle.record.specs.declared.entry.Enrolment.{Enrolment}
 use Rattle.rows.specs.declared.connection.ConnectionRow.{ConnectionRow}
 use Rattle.rows.specs.declared.group.GroupRow.{GroupRow}
 use Rattle.ledger.specs.Checks.{first, begin_checks, enrol_checks, read_checks, switch_checks, leave_checks, open_checks, post_checks, weigh_checks, divide_checks, settle_checks}
-use Rattle.ledger.specs.Events.{Event, History, enrols, reads, switches, leaves, opens, posts, weighs, puts_back, divides, withdraws, settles, moved, turned, move_refused, turn_refused}
+use Rattle.ledger.specs.Events.{History, enrols, reads, switches, leaves, opens, posts, weighs, puts_back, divides, withdraws, settles, moved, turned, move_refused, turn_refused}
 use Rattle.ledger.specs.Histories.{Start}
 use Rattle.ledger.specs.Laws.{Reaches}
 use Rattle.ledger.specs.Model.{connection_at, enrol_connections, enrol_groups, read_connections, read_groups, read_month, switch_connections, switch_groups, leave_connections, leave_groups, cleared_groups, opened, post_groups, post_opened, weigh_groups, weighing, divide_groups, divide_month}
 use Rattle.ledger.specs.Postings.{each_kind}
-use Rattle.ledger.specs.States.{Sums, Month, Opened, Weighed, State, between, gathering, slip, settled}
+use Rattle.ledger.specs.States.{Sums, Month, Opened, Weighed, between, gathering, slip, settled}
 
 -- a month of which nothing is booked yet
 abbrev pub new_month : ℕ → ℕ → Month

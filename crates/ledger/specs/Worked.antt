@@ -8,7 +8,7 @@ use Rattle.profile.specs.Sources.{published, nothing}
 use Rattle.record.specs.declared.entry.Enrolment.{Enrolment}
 use Rattle.rows.specs.declared.connection.Digits.TheVariants.{Five}
 use Rattle.rows.specs.declared.group.GroupRow.{GroupRow}
-use Rattle.rows.specs.Connections.{advance, bad_code}
+use Rattle.rows.specs.Connections.{advance}
 use Rattle.rows.specs.Dividing.{divided_rows}
 use Rattle.rows.specs.Registers.{four, two}
 use Rattle.rows.specs.Weighing.{weight_in}
@@ -17,11 +17,11 @@ use Rattle.tables.specs.BookRows.{code}
 use Rattle.record.specs.declared.page.PageRecord.{PageRecord}
 use Rattle.record.specs.declared.page.PageRecord.TheVariants.{Head, Group, Period, Register}
 use Rattle.ledger.specs.Checks.{first, begin_checks, enrol_checks, weigh_checks, divide_checks}
-use Rattle.ledger.specs.Events.{Move, Turn, History, enrols, reads, opens, posts, weighs, divides, settles, moved, turned}
+use Rattle.ledger.specs.Events.{Turn, History, enrols, reads, opens, posts, weighs, divides, settles, moved, turned}
 use Rattle.ledger.specs.Histories.{Start, Admitted, groups, month_at}
 use Rattle.ledger.specs.Pages.{page_records}
 use Rattle.ledger.specs.Model.{quarter, opened, post_opened}
-use Rattle.ledger.specs.States.{Month, Opened, Sums}
+use Rattle.ledger.specs.States.{Month, Sums}
 use Rattle.ledger.specs.Postings.{each_kind}
 
 -- an enrolment of a code, five digits, with nothing used in a year
