@@ -4,8 +4,9 @@
 usage: tools/respell.py [--list]      at the top of the repository; once, after the scripts of the kit
 
 Own words are those that specs/*.antt and proofs/*.antt declare. They are turned wherever they stand as a whole word: in
-every .antt file, in the clauses and ghost items of .rt files, and between backticks in docs/ and comments. Words of the
-library and the names that the check makes (goals, calls, labels) keep their spelling, and so does all code.
+every .antt file, in the clauses and ghost items of .rt files, and between backticks in docs/ and comments where nothing else
+stands there. Words of the library and the names that the check makes (goals, calls, labels) keep their spelling, and so do
+all code and all strings.
 """
 
 import os
@@ -51,11 +52,13 @@ def own_words():
 
 
 def turned(words, text):
-    return WORD.sub(lambda m: m[0].replace("-", "_") if m[0] in words else m[0], text)
+    pieces = re.split(r'("[^"\n]*")', text)
+    turn = lambda m: m[0].replace("-", "_") if m[0] in words else m[0]
+    return "".join(it if it.startswith('"') else WORD.sub(turn, it) for it in pieces)
 
 
 def in_ticks(words, text):
-    return re.sub(r"`[^`\n]*`", lambda m: turned(words, m[0]), text)
+    return re.sub(r"`[^`\s]*`", lambda m: turned(words, m[0]), text)
 
 
 def antt(words, text):

@@ -21,10 +21,10 @@ pub trait ProfileSource {
     // Tells the number of quarters. A layer over two sources needs it: past the end and a hole are answered alike.
     fn quarters(&self) -> Quarters
         ensures count { result.count ≡ until self.now }
-        ensures unchanged { self.now ≡ self.now };
+        ensures unchanged { self.exit.now ≡ self.entry.now };
 
     // The one question: what the source means for this class, direction and quarter.
     fn fraction(&self, class: u8, direction: u8, quarter: Quarter) -> Result<Fraction, Fault>
         ensures answer { Answered (means self.now) class direction quarter result }
-        ensures unchanged { self.now ≡ self.now };
+        ensures unchanged { self.exit.now ≡ self.entry.now };
 }

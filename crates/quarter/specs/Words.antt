@@ -25,9 +25,9 @@ net_word Losses = codes "loss"
 abbrev pub way_word : Net → Way → List ℕ
 way_word Exchange In = codes "in"
 way_word Exchange Out = codes "out"
-way_word Measured In = codes "feed_in"
+way_word Measured In = codes "feed-in"
 way_word Measured Out = codes "offtake"
-way_word Losses In = codes "feed_in"
+way_word Losses In = codes "feed-in"
 way_word Losses Out = codes "offtake"
 
 -- a posting that the word `text` gives the volume of
