@@ -2,7 +2,9 @@
 # Runs the program on every example: a report must be as its .out file has it, a refusal as its .err file, with status 1 and nothing printed.
 set -u
 cd "$(dirname "${BASH_SOURCE[0]}")"
-quarter=../target/bin/quarter
+# builds the program, where it is not built as it stands
+(cd ../crates/quarter && rt run < stdin > /dev/null 2>&1) || { echo "the program quarter does not build or run"; exit 1; }
+quarter=../crates/quarter/out/quarter
 said=$(mktemp)
 passed=0
 failed=0

@@ -1,5 +1,5 @@
 -- What a report says. Assumes nothing.
-use Rattle.std.specs.Prelude.{◌≡◌, List, [], ◌∷◌, ◌++◌, vec_items}
+use Rattle.std.specs.Prelude.{◌≡◌, [], ◌∷◌, ◌++◌, vec_items}
 use Rattle.std.specs.List.Sorted.{IsPermutation}
 use Rattle.allocation.specs.Lines.{Divides}
 use Rattle.quarter.specs.declared.input.Input.{Input}

@@ -99,7 +99,7 @@ fn report_of(heap: Global, input: Input) -> Result<Report, Stop>
         mut rows,
         lines,
     } = input;
-    rows.sort();
+    rows.sort_unstable();
     check_rising(rows.as_slice())?;
     let mut line = line_of(heap, rows.as_slice())?;
     match allocate(line.as_mut_slice(), postings.nets(), Quarter(0)) {

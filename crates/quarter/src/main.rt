@@ -9,25 +9,25 @@ mod refusal;
 mod report;
 mod show;
 
-use anyhow::anyhow;
 use book::book as book_text;
 use std::io;
+use std::process::ExitCode;
 
-fn run(rt: &HostRuntime) -> anyhow::Result<()> {
+fn run(rt: &HostRuntime) -> io::Result<ExitCode> {
     let heap = rt.alloc();
     let text = io::read_to_string(heap, rt.stdin())?;
     match book_text(heap, text.as_str()) {
         Ok(report) => {
             print!(rt; "{report}")?;
-            Ok(())
+            Ok(ExitCode::SUCCESS)
         }
         Err(stop) => {
             eprintln!(rt; "quarter: {stop}")?;
-            Err(anyhow!("refused"))
+            Ok(ExitCode::FAILURE)
         }
     }
 }
 
-fn main(rt: HostRuntime) -> anyhow::Result<()> {
+fn main(rt: HostRuntime) -> io::Result<ExitCode> {
     run(&rt)
 }

@@ -1,6 +1,6 @@
 -- The laws of numbers in bytes, over the width. Assumes nothing.
-use Rattle.std.proofs.Common.{◌≡◌, ℕ, zero, suc, ◌+◌, ◌-◌, ◌*◌, ◌/◌, ◌%◌, ◌^◌, ◌<◌, ◌≤◌, List, [], ◌∷◌, ◌++◌, length, get_or, take, drop, sym, refl, ap, ◌∙◌, subst, add-zero, mul-le-mul_right, mod-eq_of_lt, suc-add, pow-suc, zero-add, div-one, add-one, arith, length-drop, take_all}
-use native.Mathlib.Nat.{pow-succ', pow-zero, div-div-eq-div-mul, mod-one, pow-le-pow_right}
+use Rattle.std.proofs.Common.{◌≡◌, ℕ, zero, suc, ◌+◌, ◌-◌, ◌*◌, ◌/◌, ◌%◌, ◌^◌, ◌<◌, ◌≤◌, List, [], ◌∷◌, ◌++◌, length, get_or, take, drop, sym, refl, ap, ◌∙◌, subst, mod-eq_of_lt, suc-add, pow-suc, zero-add, div-one, add-one, arith, length-drop, take_all}
+use native.Mathlib.Nat.{pow-succ', div-div-eq-div-mul, mod-one, pow-le-pow_right}
 use lib.Arith.{digits_div, digits_mod, mod-mul, digits_lt}
 use Rattle.std.proofs.lemmas.List.{take_more, length-take}
 use Rattle.record.specs.Number.{big}

@@ -1,6 +1,6 @@
 -- Entries are read as they were written. Assumes nothing.
-use Rattle.std.proofs.Common.{◌≡◌, ℕ, ◌+◌, List, [], ◌∷◌, ◌++◌, length, get_or, ℤ, pos, Some, None, Ok, Err, Option, sym, refl, ap, ◌∙◌, arith}
-use Rattle.std.specs.List.{AllByRecursion as All}
+use Rattle.std.proofs.Common.{◌≡◌, ℕ, ◌+◌, List, [], ◌∷◌, ◌++◌, get_or, ℤ, pos, Some, None, Ok, Err, Option, sym, refl, ap, ◌∙◌, arith}
+use Rattle.std.specs.List.{AllByRecursion}
 use Rattle.fault.specs.declared.cause.BytePlace.{BytePlace}
 use Rattle.fault.specs.declared.cause.Fault.{Fault}
 use Rattle.record.specs.Family.{Writable, bytes_of, run}
@@ -71,7 +71,7 @@ inverse bytes place (Err f) h e more w is =
 inverse bytes place (Ok None) h e more w is = some_byte entries e more (sym is ∙ h)
 inverse bytes place (Ok (Some p)) h e more w is = same_record lawful p.0 e p.1.now more h.writable w (sym h.split ∙ is)
 
-stream : (bytes : List ℕ) (place : BytePlace) (r : Answer) → Reading bytes place r → (es : List Entry) → All (Writable entries) es → bytes ≡ run entries es → Follows r es
+stream : (bytes : List ℕ) (place : BytePlace) (r : Answer) → Reading bytes place r → (es : List Entry) → AllByRecursion (Writable entries) es → bytes ≡ run entries es → Follows r es
 stream bytes place (Err f) h [] ws is =
     let not : ◌≡◌ {A = Option Fault} (Some f) None = sym h ∙ ap (refusal place) is in
     let z : ◌≡◌ {A = ℕ} 0 1 = cc in

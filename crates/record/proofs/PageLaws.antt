@@ -1,7 +1,7 @@
 -- The records of a page are read as they were written. Assumes nothing.
-use Rattle.std.proofs.Common.{◌≡◌, ℕ, ◌+◌, true, List, [], ◌∷◌, ◌++◌, length, get_or, ℤ, pos, is_some, Some, None, sym, refl, ap, ◌∙◌, arith}
+use Rattle.std.proofs.Common.{◌≡◌, ℕ, ◌+◌, List, [], ◌∷◌, ◌++◌, get_or, ℤ, pos, is_some, Some, None, sym, refl, ap, ◌∙◌}
 use borrow.Author.Tests.{clash}
-use Rattle.std.specs.List.{AllByRecursion as All}
+use Rattle.std.specs.List.{AllByRecursion}
 use Rattle.record.specs.Family.{Writable, bytes_of, run, lack}
 use Rattle.record.specs.Kinds.{page_number, page_kind}
 use Rattle.record.specs.Pages.{page_kind_of, page_values, PageRegisters, pages, PageAnswer, PageReading, PageTakes, PageFollows, ReadsRecord}
@@ -48,7 +48,7 @@ inverse : (bytes : List ℕ) (a : PageAnswer) → PageReading bytes a → (r : P
 inverse bytes None h r more w is = clash (sym (ap is_some (ap (lack pages) is ∙ nothing_lacks lawful r more w)) ∙ h)
 inverse bytes (Some p) h r more w is = same_record lawful p.0 r p.1.now more h.writable w (sym h.split ∙ is)
 
-sequence : (bytes : List ℕ) (a : PageAnswer) → PageReading bytes a → (rs : List PageRecord) → All (Writable pages) rs → bytes ≡ run pages rs → PageFollows a rs
+sequence : (bytes : List ℕ) (a : PageAnswer) → PageReading bytes a → (rs : List PageRecord) → AllByRecursion (Writable pages) rs → bytes ≡ run pages rs → PageFollows a rs
 sequence bytes None h [] ws is = refl
 sequence bytes None h (r ∷ rs) ws is = absurd (inverse bytes None h r (run pages rs) ws.0 is)
 sequence bytes (Some p) h [] ws is = absurd (some_byte pages p.0 p.1.now (sym h.split ∙ is))

@@ -1,6 +1,6 @@
 -- Where the records of a page stand. Assumes nothing.
-use Rattle.std.proofs.Common.{◌≡◌, ℕ, zero, suc, ◌+◌, ◌-◌, ◌*◌, ◌<◌, ◌≤◌, List, [], ◌∷◌, ◌++◌, map, length, get_or, take, drop, replicate, sym, refl, ap, ◌∙◌, subst, suc-add, zero-add, mul-suc, arith}
-use Rattle.std.specs.List.{AllByRecursion as All}
+use Rattle.std.proofs.Common.{◌≡◌, ℕ, zero, suc, ◌+◌, ◌-◌, ◌*◌, ◌<◌, List, [], ◌∷◌, ◌++◌, map, length, get_or, take, drop, replicate, sym, refl, ap, ◌∙◌, suc-add, zero-add, arith}
+use Rattle.std.specs.List.{AllByRecursion}
 use Rattle.std.proofs.lemmas.List.{append_assoc, length-append, length-replicate, take_at, drop_at, drop-drop, get_or_at}
 use Rattle.record.specs.Format.{total, filled, encode}
 use Rattle.record.specs.Family.{Writable, bytes_of, run}
@@ -36,12 +36,12 @@ length_record r w =
     let body : List ℕ = encode (filled (page_layout (page_kind_of r)) (page_values r)) in
     omega (arith, length-append (big 1 (page_number (page_kind_of r))) body, length_big 1 (page_number (page_kind_of r)), length_filled (page_layout (page_kind_of r)) (page_values r) w.fits)
 
-length_run : (rs : List PageRecord) → All (Writable pages) rs → length (run pages rs) ≡ span (map page_kind_of rs)
+length_run : (rs : List PageRecord) → AllByRecursion (Writable pages) rs → length (run pages rs) ≡ span (map page_kind_of rs)
 length_run [] ws = refl
 length_run (r ∷ rs) ws = omega (arith, length-append (bytes_of pages r) (run pages rs), length_record r ws.0, length_run rs ws.1)
 
 -- what stands behind the first records
-drop_run : (rs : List PageRecord) (i : ℕ) → All (Writable pages) rs → drop (span (take i (map page_kind_of rs))) (run pages rs) ≡ run pages (drop i rs)
+drop_run : (rs : List PageRecord) (i : ℕ) → AllByRecursion (Writable pages) rs → drop (span (take i (map page_kind_of rs))) (run pages rs) ≡ run pages (drop i rs)
 drop_run rs zero ws = refl
 drop_run [] (suc i) ws = refl
 drop_run (r ∷ rs) (suc i) ws =

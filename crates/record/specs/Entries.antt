@@ -1,6 +1,6 @@
 -- The entries of a stream as bytes. Assumes nothing.
 use Rattle.std.specs.Prelude.{◌≡◌, ℕ, List, [], ◌∷◌, ◌++◌, length, ℤ, pos, Some, None, Ok, Err, Option, Result, slice_index}
-use Rattle.std.specs.List.{AllByRecursion as All}
+use Rattle.std.specs.List.{AllByRecursion}
 use Rattle.std.specs.Borrow.{Bor}
 use Rattle.fault.specs.declared.cause.BytePlace.{BytePlace}
 use Rattle.fault.specs.declared.cause.Fault.{Fault}
@@ -101,4 +101,4 @@ pub record ReadsEntry (bytes : List ℕ) (place : BytePlace) (r : Answer) : Type
   -- an entry that was written is read again
   pub inverse : (e : Entry) (more : List ℕ) → Writable entries e → bytes ≡ bytes_of entries e ++ more → Takes r e more
   -- a stream is read entry by entry
-  pub stream : (es : List Entry) → All (Writable entries) es → bytes ≡ run entries es → Follows r es
+  pub stream : (es : List Entry) → AllByRecursion (Writable entries) es → bytes ≡ run entries es → Follows r es

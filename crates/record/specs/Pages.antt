@@ -1,7 +1,7 @@
 -- The records of a page as bytes, and where each stands. Assumes nothing.
-use Rattle.std.specs.Prelude.{◌≡◌, ℕ, zero, suc, ◌+◌, true, List, [], ◌∷◌, ◌++◌, map, length, ℤ, pos, is_some, Some, None, Option, slice_index_or}
+use Rattle.std.specs.Prelude.{◌≡◌, ℕ, true, List, [], ◌∷◌, ◌++◌, length, ℤ, pos, is_some, Some, None, Option, slice_index_or}
 use Rattle.std.specs.Borrow.{Bor}
-use Rattle.std.specs.List.{AllByRecursion as All}
+use Rattle.std.specs.List.{AllByRecursion}
 use Rattle.record.specs.Format.{total, filled, encode}
 use Rattle.record.specs.Family.{Family, Writable, Begins, lack, bytes_of, run}
 use Rattle.record.specs.Kinds.{page_number, page_kinds, page_layout}
@@ -86,4 +86,4 @@ pub record ReadsRecord (bytes : List ℕ) (a : PageAnswer) : Type 0 where
   -- a record that was written is read again
   pub inverse : (r : PageRecord) (more : List ℕ) → Writable pages r → bytes ≡ bytes_of pages r ++ more → PageTakes a r more
   -- records are read one after the other
-  pub sequence : (rs : List PageRecord) → All (Writable pages) rs → bytes ≡ run pages rs → PageFollows a rs
+  pub sequence : (rs : List PageRecord) → AllByRecursion (Writable pages) rs → bytes ≡ run pages rs → PageFollows a rs

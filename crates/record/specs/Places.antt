@@ -1,6 +1,6 @@
 -- Which records a page has, and where each stands. Assumes nothing.
 use Rattle.std.specs.Prelude.{◌≡◌, ℕ, zero, suc, ◌+◌, ◌<◌, List, [], ◌∷◌, ◌++◌, map, length, take, drop, slice_index_or}
-use Rattle.std.specs.List.{AllByRecursion as All}
+use Rattle.std.specs.List.{AllByRecursion}
 use Rattle.record.specs.Format.{total}
 use Rattle.record.specs.Family.{Writable, run}
 use Rattle.record.specs.Kinds.{page_layout}
@@ -30,7 +30,7 @@ place_of rows i = span (take i (order rows))
 -- these are the records of a page with so many groups
 pub record Page (rows : ℕ) (rs : List PageRecord) : Type 0 where
   pub kinds : map page_kind_of rs ≡ order rows
-  pub writable : All (Writable pages) rs
+  pub writable : AllByRecursion (Writable pages) rs
 
 -- record i of a page is of this kind and stands at this place: from there on the page has the records from i on
 pub record Stands (rows i : ℕ) (kind : PageKind) (place : ℕ) : Type 0 where

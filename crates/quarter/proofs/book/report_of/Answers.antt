@@ -1,4 +1,4 @@
-use Rattle.std.proofs.Common.{◌≡◌, length, vec_items, vec_len, sym, refl, ap, ◌∙◌, subst, arith}
+use Rattle.std.proofs.Common.{◌≡◌, length, vec_len, refl, ap, ◌∙◌, subst, arith}
 use Rattle.std.proofs.lemmas.List.{with_items_is}
 use Rattle.quarter.specs.Rows.{Rising, line_of}
 use Rattle.quarter.proofs.Reading.{booked}
@@ -15,5 +15,5 @@ returns-in-Ok c =
           (c.as_mut_slice.ensures.value ∙ c.in_ok-line.ensures ∙ ap line_of c.as_slice-2.ensures.value)
           (with_items_is c.in_ok-line.line c.allocate.new.line long)
           c.in-Ok.ensures.answer.1;
-      whole = record { postings = refl; groups = c.sort.ensures.permutation };
+      whole = record { postings = refl; groups = c.sort_unstable.ensures.permutation };
     }

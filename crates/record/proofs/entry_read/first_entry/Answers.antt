@@ -1,12 +1,12 @@
-use Rattle.std.proofs.Common.{◌≡◌, ◌<◌, length, sym, ap, ◌∙◌, rules}
+use Rattle.std.proofs.Common.{◌<◌, length, sym, ◌∙◌, rules}
 use Rattle.std.proofs.lemmas.List.{nil_from_length}
 use Rattle.record.specs.Entries.{entries}
 use Rattle.record.proofs.FamilyLaws.{apart, read_body, begins}
 use Rattle.record.proofs.EntryLaws.{lawful}
 use Rattle.record.proofs.entry_read.first_entry.Goals as goal
 
-pub returns-in-default : goal.returns-in-default
-returns-in-default c = nil_from_length c.args.bytes.now (search rules)
+pub returns-in_default : goal.returns-in_default
+returns-in_default c = nil_from_length c.args.bytes.now (search rules)
 
 pub returns-in-Some-split_at_checked : goal.returns-in-Some-split_at_checked
 returns-in-Some-split_at_checked c =

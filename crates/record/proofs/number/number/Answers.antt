@@ -1,4 +1,4 @@
-use Rattle.std.proofs.Common.{◌≡◌, ◌+◌, ◌-◌, ◌*◌, ◌^◌, ◌<◌, ◌≤◌, length, get_or, take, drop, sym, refl, ap, ◌∙◌, subst, arith, rules}
+use Rattle.std.proofs.Common.{◌≡◌, ◌^◌, ◌<◌, refl, subst, arith, rules}
 use Rattle.record.specs.Number.{big}
 use Rattle.record.proofs.Big.{turn, room, part_length, read_whole}
 use Rattle.record.proofs.number.number.Goals as goal

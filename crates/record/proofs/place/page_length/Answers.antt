@@ -1,4 +1,4 @@
-use Rattle.std.proofs.Common.{sym, ◌∙◌, arith}
+use Rattle.std.proofs.Common.{◌∙◌, arith}
 use Rattle.record.proofs.PlaceLaws.{length_page, page_is}
 use Rattle.record.proofs.place.page_length.Goals as goal
 

@@ -1,6 +1,6 @@
 use Rattle.std.proofs.Common.{sym, ap, ◌∙◌, arith}
 use Rattle.std.proofs.lemmas.List.{at_drop_all}
-use Rattle.record.specs.Format.{over, encode, extent}
+use Rattle.record.specs.Format.{over, encode}
 use Rattle.record.proofs.Fields.{extent_more, narrow_more, put_more, over_none}
 use Rattle.record.proofs.put.put_all.Goals as goal
 

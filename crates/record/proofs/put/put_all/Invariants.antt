@@ -1,4 +1,4 @@
-use Rattle.std.proofs.Common.{◌≡◌, ◌+◌, length, drop}
+use Rattle.std.proofs.Common.{◌≡◌, ◌+◌, drop}
 use Rattle.record.specs.Format.{over, encode, extent, Narrow}
 use Rattle.record.proofs.put.put_all.Given as goal
 

@@ -1,4 +1,4 @@
-use Rattle.std.proofs.Common.{◌≡◌, sym, rules}
+use Rattle.std.proofs.Common.{rules}
 use Rattle.record.specs.Pages.{pages}
 use Rattle.record.specs.declared.page.PageRecord.TheVariants.{Group}
 use Rattle.record.proofs.FamilyLaws.{puts}
