@@ -15,9 +15,6 @@ pub trait ProfileSource {
     // the fraction for each class, direction and quarter, or none
     ghost means: { Self → Meaning };
 
-    // what each source shows of the two; a member and no `law`, since an impl over a lent slice can have none
-    ghost lawful: { (source : Self) → Lawful (until source) (means source) };
-
     // Tells the number of quarters. A layer over two sources needs it: past the end and a hole are answered alike.
     fn quarters(&self) -> Quarters
         ensures count { result.count ≡ until self.now }
@@ -27,4 +24,7 @@ pub trait ProfileSource {
     fn fraction(&self, class: u8, direction: u8, quarter: Quarter) -> Result<Fraction, Fault>
         ensures answer { Answered (means self.now) class direction quarter result }
         ensures unchanged { self.exit.now ≡ self.entry.now };
+
+    // the law of every source
+    ghost lawful: { (source : Self) → Lawful (until source) (means source) };
 }
