@@ -1,10 +1,10 @@
 -- All live rows rewritten where they stand, under the keys that they have. Assumes nothing.
-use Rattle.std.proofs.Common.{◌≡◌, ℕ, zero, suc, ◌+◌, ◌<◌, ◌≤◌, List, [], ◌∷◌, ◌++◌, map, length, get_or, take, drop, Ok, Err, Result, sym, refl, ap, ◌∙◌, subst, arith, length-append, length-drop, take-append-drop, length-take}
+use Rattle.std.proofs.Common.{◌≡◌, ℕ, zero, suc, List, [], ◌∷◌, ◌++◌, map, length, get_or, take, drop, Ok, Err, Result, sym, refl, ap, ◌∙◌, subst, arith, length-append, length-drop, take-append-drop, length-take}
 use Rattle.std.proofs.lemmas.List.{drop_at, length-map}
 use Rattle.fault.specs.declared.cause.Fault.{Fault}
 use Rattle.allocation.specs.Along.{along}
 use Rattle.tables.specs.declared.keyed.Table.{Table}
-use Rattle.tables.specs.Rules.{Rules, Rising}
+use Rattle.tables.specs.Rules.{Rules}
 use Rattle.tables.specs.Tables.{Keeps, Sound, live, memory}
 use Rattle.tables.proofs.Memory.{take_live}
 use Rattle.tables.proofs.Outcomes.{Wrote}
@@ -21,8 +21,8 @@ pub front_live : {R K : Type 0} (t : Table R K) (n : ℕ) → n ≡ length (live
 front_live t n n-is = ap (λ m. take m (memory t)) n-is ∙ take_live t.len (memory t)
 
 -- memory that holds what it held
-pub same_table : {R K : Type 0} (t : Table R K) (m : List R) → m ≡ memory t → ◌≡◌ {A = Table R K} (record { rows = record { ref_ptr = t.rows.ptr; ghost_name = t.rows.name; now = m }; len = t.len }) t
-same_table {R} {K} t m e = ap (λ (l : List R). record { rows = record { ref_ptr = t.rows.ptr; ghost_name = t.rows.name; now = l }; len = t.len }) e
+pub same_table : {R K : Type 0} (t : Table R K) (m : List R) → m ≡ memory t → ◌≡◌ {A = Table R K} (record { rows = record { ref_ptr = t.rows.ref_ptr; ghost_name = t.rows.ghost_name; now = m }; len = t.len }) t
+same_table {R} {K} t m e = ap (λ (l : List R). record { rows = record { ref_ptr = t.rows.ref_ptr; ghost_name = t.rows.ghost_name; now = l }; len = t.len }) e
 
 module _ {R K : Type 0} (t t' : Table R K) (rows : List R) (long : length rows ≡ length (live t)) (is : memory t' ≡ rows ++ drop (length (live t)) (memory t)) (counted : t'.len ≡ t.len) where
   pub wrote_front : Wrote t t' rows

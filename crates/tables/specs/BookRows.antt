@@ -1,7 +1,6 @@
 -- The rules of the book's two tables. Assumes nothing.
-use Rattle.std.specs.Prelude.{ℕ, Bool, ltb}
+use Rattle.std.specs.Prelude.{ℕ, ltb}
 use Rattle.fault.specs.declared.cause.Code.{Code}
-use Rattle.fault.specs.declared.cause.Fault.{Fault}
 use Rattle.fault.specs.declared.cause.Fault.TheVariants.{CodePresent, NotEnrolled, NoPlace, ForeignTables}
 use Rattle.fault.specs.declared.cause.TableKind.TheVariants.{Connections, Groups}
 use Rattle.rows.specs.declared.connection.ConnectionRow.{ConnectionRow}

@@ -21,7 +21,7 @@ pub struct Table<'a, R: Row> {
 impl<'a, R: Row> Table<'a, R> {
     // A table with no row over the lent memory.
     pub fn new(rows: &'a mut [R]) -> Table<'a, R>
-        ensures sound { Sound rules result }
+        ensures sound { Sound R.rules result }
         ensures rows { live result ≡ [] }
         ensures memory { memory result ≡ rows.old }
         ensures lent { result.rows.ghost_name ≡ rows.entry.ghost_name }
@@ -55,7 +55,7 @@ impl<'a, R: Row> Table<'a, R> {
     // The place of the row with the key, or else the place where such a row would go.
     pub fn find(&self, wanted: &R::Key) -> Result<usize, usize>
         ensures within { PlaceWithin (live self.now) result }
-        ensures found { Sound rules self.now → Found rules (live self.now) wanted.now result }
+        ensures found { Sound R.rules self.now → Found R.rules (live self.now) wanted.now result }
     {
         find_row(self.rows(), wanted)
     }
@@ -63,7 +63,7 @@ impl<'a, R: Row> Table<'a, R> {
     // The place of the row with the key, or the fault that no row has it.
     pub fn seek(&self, wanted: &R::Key) -> Result<usize, Fault>
         ensures within { IfOk result (λ place. place < length (live self.now)) }
-        ensures sought { Sound rules self.now → Seeks rules self.now wanted.now result }
+        ensures sought { Sound R.rules self.now → Seeks R.rules self.now wanted.now result }
     {
         match self.find(wanted) {
             Ok(place) => Ok(place),
@@ -73,8 +73,8 @@ impl<'a, R: Row> Table<'a, R> {
 
     // The place for a row with the key, or the fault why none goes in.
     fn place_for(&self, wanted: &R::Key) -> Result<usize, Fault>
-        ensures free { IfOk result (λ place. Free rules self.now place) }
-        ensures places { Sound rules self.now → Places rules self.now wanted.now result }
+        ensures free { IfOk result (λ place. Free R.rules self.now place) }
+        ensures places { Sound R.rules self.now → Places R.rules self.now wanted.now result }
     {
         let room = R::most().min(self.rows.len());
         match self.find(wanted) {
@@ -93,8 +93,8 @@ impl<'a, R: Row> Table<'a, R> {
     pub fn insert(&mut self, row: R) -> Result<usize, Fault>
         ensures refused { OnErr result (self.new ≡ self.old) }
         ensures kept { Keeps self.old self.new }
-        ensures sound { Sound rules self.old → Sound rules self.new }
-        ensures inserted { Sound rules self.old → Inserts rules self.old row result self.new }
+        ensures sound { Sound R.rules self.old → Sound R.rules self.new }
+        ensures inserted { Sound R.rules self.old → Inserts R.rules self.old row result self.new }
         ensures lent { self.new.rows.ghost_name ≡ self.old.rows.ghost_name }
     {
         let place = self.place_for(&row.key())?;
@@ -106,8 +106,8 @@ impl<'a, R: Row> Table<'a, R> {
     pub fn remove(&mut self, wanted: &R::Key) -> Result<R, Fault>
         ensures refused { OnErr result (self.new ≡ self.old) }
         ensures kept { Keeps self.old self.new }
-        ensures sound { Sound rules self.old → Sound rules self.new }
-        ensures removed { Sound rules self.old → Removes rules self.old wanted.now result self.new }
+        ensures sound { Sound R.rules self.old → Sound R.rules self.new }
+        ensures removed { Sound R.rules self.old → Removes R.rules self.old wanted.now result self.new }
         ensures lent { self.new.rows.ghost_name ≡ self.old.rows.ghost_name }
     {
         let place = self.seek(wanted)?;
@@ -118,8 +118,8 @@ impl<'a, R: Row> Table<'a, R> {
     pub fn replace(&mut self, row: R) -> Result<R, Fault>
         ensures refused { OnErr result (self.new ≡ self.old) }
         ensures kept { Keeps self.old self.new }
-        ensures sound { Sound rules self.old → Sound rules self.new }
-        ensures replaced { Sound rules self.old → Replaces rules self.old row result self.new }
+        ensures sound { Sound R.rules self.old → Sound R.rules self.new }
+        ensures replaced { Sound R.rules self.old → Replaces R.rules self.old row result self.new }
         ensures lent { self.new.rows.ghost_name ≡ self.old.rows.ghost_name }
     {
         let place = self.seek(&row.key())?;
@@ -128,7 +128,7 @@ impl<'a, R: Row> Table<'a, R> {
 
     // Lets every row go; the memory stays lent, to be used again.
     pub fn empty(&mut self)
-        ensures sound { Sound rules self.new }
+        ensures sound { Sound R.rules self.new }
         ensures rows { live self.new ≡ [] }
         ensures memory { memory self.new ≡ memory self.old }
         ensures lent { self.new.rows.ghost_name ≡ self.old.rows.ghost_name }
@@ -138,10 +138,10 @@ impl<'a, R: Row> Table<'a, R> {
 
     // Puts a row in at its place: the rows from there on move up.
     fn add_at(&mut self, place: usize, row: R)
-        requires { Free rules self.old place }
+        requires { Free R.rules self.old place }
         ensures kept { Keeps self.old self.new }
-        ensures sound { Sound rules self.old → Places rules self.old (rules.key row) (Ok place) → Sound rules self.new }
-        ensures inserted { Sound rules self.old → Places rules self.old (rules.key row) (Ok place) → Inserted rules self.old row place self.new }
+        ensures sound { Sound R.rules self.old → Places R.rules self.old (R.rules.key row) (Ok place) → Sound R.rules self.new }
+        ensures inserted { Sound R.rules self.old → Places R.rules self.old (R.rules.key row) (Ok place) → Inserted R.rules self.old row place self.new }
         ensures lent { self.new.rows.ghost_name ≡ self.old.rows.ghost_name }
     {
         let len = self.len();
@@ -153,8 +153,8 @@ impl<'a, R: Row> Table<'a, R> {
     fn take_at(&mut self, place: usize) -> R
         requires { place < length (live self.old) }
         ensures kept { Keeps self.old self.new }
-        ensures sound { Sound rules self.old → Sound rules self.new }
-        ensures removed { Sound rules self.old → (k : R.Key) → Seeks rules self.old k (Ok place) → Removed rules self.old k result self.new }
+        ensures sound { Sound R.rules self.old → Sound R.rules self.new }
+        ensures removed { Sound R.rules self.old → (k : R.Key) → Seeks R.rules self.old k (Ok place) → Removed R.rules self.old k result self.new }
         ensures lent { self.new.rows.ghost_name ≡ self.old.rows.ghost_name }
     {
         let len = self.len();
@@ -167,8 +167,8 @@ impl<'a, R: Row> Table<'a, R> {
     fn exchange_at(&mut self, place: usize, row: R) -> R
         requires { place < length (live self.old) }
         ensures kept { Keeps self.old self.new }
-        ensures sound { Sound rules self.old → Seeks rules self.old (rules.key row) (Ok place) → Sound rules self.new }
-        ensures replaced { Sound rules self.old → Seeks rules self.old (rules.key row) (Ok place) → Replaced rules self.old row result self.new }
+        ensures sound { Sound R.rules self.old → Seeks R.rules self.old (R.rules.key row) (Ok place) → Sound R.rules self.new }
+        ensures replaced { Sound R.rules self.old → Seeks R.rules self.old (R.rules.key row) (Ok place) → Replaced R.rules self.old row result self.new }
         ensures lent { self.new.rows.ghost_name ≡ self.old.rows.ghost_name }
     {
         put_at(self.rows, place, row)

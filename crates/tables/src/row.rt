@@ -5,8 +5,8 @@ ghost use Rattle.tables.specs.Rules.{Rules, TotalOrder};
 use fault::Fault;
 
 // A row has a key, and keys have a total order. A table keeps its rows in that order, each key once.
-// An impl gives the rules as a definition in specs and a function for each of them; `ordered` it owes, and at
-// numbers and tuples of numbers nothing has to be written for it.
+// An impl gives the rules as a definition in specs, a function for each of them, and the proof that its keys are
+// `ordered`, which at numbers and tuples of numbers is the search alone.
 pub trait Row: Copy {
     type Key: Copy;
 

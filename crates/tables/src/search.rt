@@ -18,8 +18,8 @@ pub(crate) fn first_rows<R: Row>(rows: &[R], len: usize) -> &[R]
 // The place of the first row whose key is not before `wanted`; the number of rows if there is none.
 fn first_not_before<R: Row>(rows: &[R], wanted: &R::Key) -> usize
     ensures within { result ≤ length rows.now }
-    ensures below { Rising rules rows.now → AllBefore rules rows.now wanted.now result }
-    ensures above { Rising rules rows.now → NoneBefore rules rows.now wanted.now result }
+    ensures below { Rising R.rules rows.now → AllBefore R.rules rows.now wanted.now result }
+    ensures above { Rising R.rules rows.now → NoneBefore R.rules rows.now wanted.now result }
 {
     let mut low = 0;
     let mut high = rows.len();
@@ -37,7 +37,7 @@ fn first_not_before<R: Row>(rows: &[R], wanted: &R::Key) -> usize
 // The place of the row with the key, or else the place where such a row would go.
 pub(crate) fn find_row<R: Row>(rows: &[R], wanted: &R::Key) -> Result<usize, usize>
     ensures within { PlaceWithin rows.now result }
-    ensures found { Rising rules rows.now → Found rules rows.now wanted.now result }
+    ensures found { Rising R.rules rows.now → Found R.rules rows.now wanted.now result }
 {
     let place = first_not_before(rows, wanted);
     if place == rows.len() {

@@ -12,7 +12,7 @@ use Rattle.tables_demo.specs.declared.rows.Meter.{Meter}
 abbrev pub meter_rules : Rules Meter ℕ
 meter_rules = record {
   key = λ row. row.code;
-  less = ltb;
+  less = nat_lt;
   most = 3;
   present = λ k. CodePresent (record { 0 = k });
   absent = λ k. NotEnrolled (record { 0 = k });

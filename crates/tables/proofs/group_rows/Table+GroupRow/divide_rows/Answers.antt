@@ -1,4 +1,4 @@
-use Rattle.std.proofs.Common.{◌≡◌, ◌+◌, List, refl, ap, ◌∙◌, subst}
+use Rattle.std.proofs.Common.{◌≡◌, ◌+◌, List, refl, subst}
 use Rattle.fault.specs.Values.{period_number}
 use Rattle.allocation.specs.Refusals.{Decided}
 use Rattle.rows.specs.declared.group.GroupRow.{GroupRow}
