@@ -2,7 +2,7 @@
 use Rattle.std.proofs.Common.{◌≡◌, ℕ, zero, suc, ◌+◌, ◌*◌, ◌<◌, ◌≤◌, Bool, true, false, cond, eqb, ltb, List, [], ◌∷◌, ◌++◌, map, length, ℤ, pos, negsuc, ◌+ℤ◌, ◌-ℤ◌, ◌*ℤ◌, nat_abs, sym, refl, ap, ◌∙◌, subst, mul-le-mul, arith, lit<}
 use Rattle.std.proofs.lemmas.Int.{ints}
 use Rattle.std.proofs.lemmas.Bool.Decides.{nat_tests}
-use Rattle.std.specs.List.{AllByRecursion as All}
+use Rattle.std.specs.List.{AllByRecursion}
 use Rattle.allocation.specs.declared.sums.Reconciled.{Reconciled}
 use Rattle.allocation.specs.Amounts.{settled as priced_line}
 use Rattle.allocation.specs.Scale.{most_volume, most_price, per_mwh}
@@ -145,7 +145,7 @@ writable_group h g n x y =
     few : {n : ℕ} → n ≤ most_volume → n ≤ 100000000000000000
     few l = omega arith
 
-all_append : (xs ys : List PageRecord) → All (Writable pages) xs → All (Writable pages) ys → All (Writable pages) (xs ++ ys)
+all_append : (xs ys : List PageRecord) → AllByRecursion (Writable pages) xs → AllByRecursion (Writable pages) ys → AllByRecursion (Writable pages) (xs ++ ys)
 all_append [] ys a b = b
 all_append (x ∷ xs) ys a b = (a.0, all_append xs ys a.1 b)
 
@@ -168,7 +168,7 @@ still_listed j g js l = either (same group_rules j g) (listed group_rules g js) 
     either true b e = refl
     either false b e = e
 
-writable_groups : (s : Start) (h : History) → Admitted s h → (ks : List Group) → ((g : Group) → listed group_rules g ks ≡ true → Named g) → (t : Running) → Roomy h ks t → All (Writable pages) (group_records (prices_of h) t (map (volumes_in h) ks))
+writable_groups : (s : Start) (h : History) → Admitted s h → (ks : List Group) → ((g : Group) → listed group_rules g ks ≡ true → Named g) → (t : Running) → Roomy h ks t → AllByRecursion (Writable pages) (group_records (prices_of h) t (map (volumes_in h) ks))
 writable_groups s h a [] named t room = tt
 writable_groups s h a (g ∷ gs) named t room =
     let n = named g (rw (self g)) in
@@ -296,7 +296,7 @@ party_small s (turned t ∷ h) a = party_small s h a.0
 party_small s (move_refused m f ∷ h) a = party_small s h a.0
 party_small s (turn_refused t f ∷ h) a = party_small s h a.0
 
-page_writable : (s : Start) (h : History) → Admitted s h → All (Writable pages) (page_in s h)
+page_writable : (s : Start) (h : History) → Admitted s h → AllByRecursion (Writable pages) (page_in s h)
 page_writable s h a =
     let q = quarters_small s h a in
     let l = party_small s h a in
@@ -314,7 +314,7 @@ page_kinds : (s : Start) (h : History) → map page_kind_of (page_in s h) ≡ or
 page_kinds s h = ap (λ l. kinds.Head ∷ l) (kinds_of (prices_of h) _ (map (volumes_in h) (known h)) (record { normal = pos 0; low = pos 0 }) ∙ ap (λ n. group_kinds n ++ (kinds.Period ∷ kinds.Period ∷ [])) (length_made (volumes_in h) (known h)))
 
 -- whoever reads the bytes reads these records
-decoded_once : (xs ys : List PageRecord) → All (Writable pages) xs → All (Writable pages) ys → run pages xs ≡ run pages ys → xs ≡ ys
+decoded_once : (xs ys : List PageRecord) → AllByRecursion (Writable pages) xs → AllByRecursion (Writable pages) ys → run pages xs ≡ run pages ys → xs ≡ ys
 decoded_once [] [] a b e = refl
 decoded_once [] (y ∷ ys) a b e = absurd (some_byte pages y (run pages ys) (sym e))
 decoded_once (x ∷ xs) [] a b e = absurd (some_byte pages x (run pages xs) e)

@@ -1,6 +1,6 @@
 -- The laws of every month, after every event of its history. Assumes nothing.
 use Rattle.std.specs.Prelude.{◌≡◌, ℕ, ◌%◌, ◌<◌, ◌≤◌, Bool, false, cond, List, [], ◌∷◌, map, length, ℤ, pos, ◌+ℤ◌, Some, ◌==◌, ◌≢◌, slice_index, slice_index_or}
-use Rattle.std.specs.List.{AllByRecursion as All}
+use Rattle.std.specs.List.{AllByRecursion}
 use Rattle.fault.specs.declared.cause.Fault.TheVariants.{ForeignTables, LimitPassed}
 use Rattle.fault.specs.declared.cause.Limit.TheVariants.{Volume}
 use Rattle.allocation.specs.declared.sums.Reconciled.{Reconciled}
@@ -142,7 +142,7 @@ pub record PageLaw (s : Start) (h : History) (gs : List GroupRow) : Type 0 where
   pub figures : page_records (month_at s h) gs ≡ page_in s h
   pub page : Page (length (known h)) (page_in s h)
   pub size : length (page_bytes (month_at s h) gs) ≡ page_size gs
-  pub decoded : (rs : List PageRecord) → All (Writable pages) rs → run pages rs ≡ page_bytes (month_at s h) gs → rs ≡ page_in s h
+  pub decoded : (rs : List PageRecord) → AllByRecursion (Writable pages) rs → run pages rs ≡ page_bytes (month_at s h) gs → rs ≡ page_in s h
   -- the volumes of a period are those of the history in their line, each amount G after it less G before it
   pub line : (p : ℕ) → p < 2 → page_line p (page_in s h) ≡ priced_line (price_in h p) (pos 0) (map unpriced (line_in h p (known h) (loss_volume_in h p)))
   pub volumes : (p : ℕ) → p < 2 → net (record_volume p) (page_in s h) ≡ pos 0

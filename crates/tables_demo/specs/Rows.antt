@@ -4,10 +4,10 @@ use Rattle.fault.specs.declared.cause.Fault.TheVariants.{CodePresent, NotEnrolle
 use Rattle.fault.specs.declared.cause.TableKind.TheVariants.{Connections, Groups}
 use Rattle.tables.specs.Rules.{Rules}
 use Rattle.tables_demo.specs.Bytes.{text_before}
-use Rattle.tables_demo.specs.declared.rows.Group.{Group}
-use Rattle.tables_demo.specs.declared.rows.GroupKey.{GroupKey}
-use Rattle.tables_demo.specs.declared.rows.Label.{Label}
-use Rattle.tables_demo.specs.declared.rows.Meter.{Meter}
+use Rattle.tables_demo.specs.declared.kinds.Group.{Group}
+use Rattle.tables_demo.specs.declared.kinds.GroupKey.{GroupKey}
+use Rattle.tables_demo.specs.declared.kinds.Label.{Label}
+use Rattle.tables_demo.specs.declared.kinds.Meter.{Meter}
 
 abbrev pub meter_rules : Rules Meter ℕ
 meter_rules = record {

@@ -2,11 +2,11 @@
 #![tactic(auto)]
 
 mod bytes;
-mod rows;
+mod kinds;
 mod uses;
 
 use fault::Fault;
-use rows::{Group, GroupKey, Label, Meter};
+use kinds::{Group, GroupKey, Label, Meter};
 use std::io;
 use tables::Table;
 use uses::{drop_label, exchange_meter, lend_for_one, set_group};

@@ -1,10 +1,10 @@
 // What each kind of row can rely on, from the contracts of the table alone.
 ghost use Rattle.std.specs.Prelude.{◌≡◌, ℕ, List, drop, IfOk, Some, None, OnOk, ◌≢◌};
 ghost use Rattle.tables.specs.Tables.{Sound, row_with};
-ghost use Rattle.tables_demo.specs.declared.rows.GroupKey.{GroupKey};
+ghost use Rattle.tables_demo.specs.declared.kinds.GroupKey.{GroupKey};
 ghost use Rattle.tables_demo.specs.Rows.{group_rules, label_rules, meter_rules};
 
-use crate::rows::{Group, Label, Meter};
+use crate::kinds::{Group, Label, Meter};
 use fault::Fault;
 use tables::Table;
 
