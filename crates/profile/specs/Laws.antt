@@ -1,4 +1,4 @@
--- Each source of this crate keeps the laws. These proofs stand here, since an impl gives them as its member `lawful`.
+-- Each source of this crate keeps the laws. These proofs stand here, since an impl gives them for the law `lawful`.
 -- A source of your own, whose meaning is made by `within_month`, has them from `within_month_lawful`. Assumes nothing.
 use Rattle.std.specs.Prelude.{◌≡◌, ℕ, ◌≤◌, min, Bool, cond, List, Some, None, Option, ◌==◌, nat_le, nat_lt, slice_index, refl}
 use Rattle.std.proofs.Common.{arith}

@@ -63,4 +63,4 @@ row_amount price s period row direction = cond (direction == 0) (amount_of price
 
 -- the amount of a row in a register; each period has its price and its running total
 abbrev pub amount_in : ℤ → ℤ → ℤ → ℤ → GroupRow → ℕ → ℤ
-amount_in normal-price normal low-price low row r = cond (r % 2 == 0) (row_amount normal-price normal 0 row (r / 2)) (row_amount low-price low 1 row (r / 2))
+amount_in normal_price normal low_price low row r = cond (r % 2 == 0) (row_amount normal_price normal 0 row (r / 2)) (row_amount low_price low 1 row (r / 2))

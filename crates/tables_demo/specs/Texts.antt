@@ -22,9 +22,9 @@ text_total [] (y ∷ b) p q = grind arith
 text_total (x ∷ a) [] p q = grind arith
 text_total (x ∷ a) (y ∷ b) p q = let ih = text_total a b in grind arith
 
-module _ (a b : List ℕ) (i : ℕ) (in-a : i < length a) (in_b : i < length b) where
+module _ (a b : List ℕ) (i : ℕ) (in_a : i < length a) (in_b : i < length b) where
   opened : text_before (drop i a) (drop i b) ≡ text_before (slice_index a i ∷ drop (i + 1) a) (slice_index b i ∷ drop (i + 1) b)
-  opened = rw (drop_more a i 0 in-a, drop_more b i 0 in_b)
+  opened = rw (drop_more a i 0 in_a, drop_more b i 0 in_b)
 
   -- equal bytes leave it to the next
   pub same_byte : slice_index_or a i 0 ≡ slice_index b i → text_before (drop i a) (drop i b) ≡ text_before (drop (i + 1) a) (drop (i + 1) b)
@@ -34,4 +34,4 @@ module _ (a b : List ℕ) (i : ℕ) (in-a : i < length a) (in_b : i < length b) 
   other_byte ne = let o = opened in grind arith
 
 pub no_difference : (a b : List ℕ) (i : ℕ) → length a ≤ i → length b ≤ i → text_before (drop i a) (drop i b) ≡ false
-no_difference a b i past-a past-b = rw (drop_all i a past-a, drop_all i b past-b)
+no_difference a b i past_a past_b = rw (drop_all i a past_a, drop_all i b past_b)
