@@ -11,7 +11,7 @@ use Rattle.tables.specs.BookRows.{group_rules}
 use Rattle.ledger.specs.Events.{History, enrols, reads, switches, leaves, opens, posts, weighs, puts_back, divides, withdraws, settles, moved, turned, move_refused, turn_refused}
 use Rattle.ledger.specs.Histories.{Start, Admitted, connections, groups}
 use Rattle.ledger.specs.Keys.{listed, net}
-use Rattle.ledger.specs.Laws.{Shares, Latest, Counts, Lawful, Reaches, written_in}
+use Rattle.ledger.specs.Laws.{Shares, Latest, Counts, Answered, Lawful, Reaches, written_in}
 use Rattle.ledger.specs.Quantities.{done, period_now, known, standing_sum, weight, weights, residual, wrote, posted_to, allocated, exchange_in, losses_in, gets}
 use Rattle.ledger.specs.States.{State}
 use Rattle.ledger.proofs.Basics.{four_read, two_read}
@@ -88,6 +88,18 @@ names : (h : History) (ks : List Group) → map (λ row. row.group) (map (ledger
 names h [] = refl
 names h (g ∷ gs) = ap (λ l. g ∷ l) (names h gs)
 
+answered : (s : Start) (h : History) → Admitted s h → Answered s h
+answered s h a = record {
+  accepts_move = λ between m checked. (a, between, checked);
+  refuses_move = λ between m f checked. (a, between, checked);
+  accepts_turn = λ t wanted checked. (a, wanted, checked);
+  refuses_turn = λ t f wanted checked. (a, wanted, checked);
+  only_moves = λ m e. (e.1, e.2);
+  only_refused_moves = λ m f e. (e.1, e.2);
+  only_turns = λ t e. (e.1, e.2);
+  only_refused_turns = λ t f e. (e.1, e.2);
+}
+
 pub history_lawful : (s : Start) (h : History) → Admitted s h → Lawful s h (connections h) (groups h)
 history_lawful s h a = record {
   enrolled = (members s h a).rows;
@@ -105,6 +117,7 @@ history_lawful s h a = record {
   latest = latest s h a;
   settling = λ _ p k. settles_law s h a p k;
   page = λ _. page_law s h a;
+  answers = answered s h a;
   own = own_tables s h a;
 }
 

@@ -1,6 +1,7 @@
 -- The laws of every month, after every event of its history. Assumes nothing.
-use Rattle.std.specs.Prelude.{◌≡◌, ℕ, ◌%◌, ◌<◌, ◌≤◌, Bool, false, cond, List, [], ◌∷◌, map, length, ℤ, pos, ◌+ℤ◌, Some, ◌==◌, ◌≢◌, slice_index, slice_index_or}
+use Rattle.std.specs.Prelude.{◌≡◌, ℕ, ◌%◌, ◌<◌, ◌≤◌, Bool, false, cond, List, [], ◌∷◌, map, length, ℤ, pos, ◌+ℤ◌, Some, None, ◌==◌, ◌≢◌, slice_index, slice_index_or}
 use Rattle.std.specs.List.{AllByRecursion}
+use Rattle.fault.specs.declared.cause.Fault.{Fault}
 use Rattle.fault.specs.declared.cause.Fault.TheVariants.{ForeignTables, LimitPassed}
 use Rattle.fault.specs.declared.cause.Limit.TheVariants.{Volume}
 use Rattle.allocation.specs.declared.sums.Reconciled.{Reconciled}
@@ -159,6 +160,18 @@ pub record Own (s : Start) (h : History) : Type 0 where
   pub turns : (t : Turn) → phase h ≡ wants t → NotForeign (first (turn_checks s h t))
   pub pages : phase h ≡ settled → (memory : ℕ) → NotForeign (first (page_checks (month_at s h) (groups h) memory))
 
+-- after a history, an entry that the state admits is accepted if no check speaks, and else refused with the fault of the first that does.
+-- Nothing else is an event: neither an entry that the state does not admit nor another answer.
+pub record Answered (s : Start) (h : History) : Type 0 where
+  pub accepts_move : phase h ≡ between → (m : Move) → first (move_checks s h m) ≡ None → Admitted s (moved m ∷ h)
+  pub refuses_move : phase h ≡ between → (m : Move) (f : Fault) → first (move_checks s h m) ≡ Some f → Admitted s (move_refused m f ∷ h)
+  pub accepts_turn : (t : Turn) → phase h ≡ wants t → first (turn_checks s h t) ≡ None → Admitted s (turned t ∷ h)
+  pub refuses_turn : (t : Turn) (f : Fault) → phase h ≡ wants t → first (turn_checks s h t) ≡ Some f → Admitted s (turn_refused t f ∷ h)
+  pub only_moves : (m : Move) → Admitted s (moved m ∷ h) → (phase h ≡ between) × (first (move_checks s h m) ≡ None)
+  pub only_refused_moves : (m : Move) (f : Fault) → Admitted s (move_refused m f ∷ h) → (phase h ≡ between) × (first (move_checks s h m) ≡ Some f)
+  pub only_turns : (t : Turn) → Admitted s (turned t ∷ h) → (phase h ≡ wants t) × (first (turn_checks s h t) ≡ None)
+  pub only_refused_turns : (t : Turn) (f : Fault) → Admitted s (turn_refused t f ∷ h) → (phase h ≡ wants t) × (first (turn_checks s h t) ≡ Some f)
+
 -- all laws, of a history and the tables that it leads to
 pub record Lawful (s : Start) (h : History) (cs : List ConnectionRow) (gs : List GroupRow) : Type 0 where
   -- the connections of the table are those enrolled and not left, each as the history knows it, in the order of their codes, none twice
@@ -183,6 +196,8 @@ pub record Lawful (s : Start) (h : History) (cs : List ConnectionRow) (gs : List
   -- a settled month balances, on its page too
   pub settling : phase h ≡ settled → (p : ℕ) → p < 2 → Settles s h gs p
   pub page : phase h ≡ settled → PageLaw s h gs
+  -- what the answer to each entry is, and that own tables never give one of foreign tables
+  pub answers : Answered s h
   pub own : Own s h
 
 -- state and tables are what a history leads to

@@ -1,5 +1,5 @@
 -- The kinds of postings: their numbers, and what they count in. Assumes nothing.
-use Rattle.std.specs.Prelude.{ℕ, ◌+◌, ◌-◌, Bool, true, cond, List, [], ◌∷◌, ℤ, pos, ◌-ℤ◌, neg_ℤ, Option, ◌==◌, slice_index}
+use Rattle.std.specs.Prelude.{ℕ, ◌+◌, ◌-◌, Bool, true, cond, List, [], ◌∷◌, map, length, sum, ℤ, pos, ◌-ℤ◌, neg_ℤ, Option, ◌==◌, slice_index}
 use Rattle.record.specs.Family.{numbered}
 use Rattle.ledger.specs.declared.posting.PostingKind.{PostingKind}
 use Rattle.ledger.specs.declared.posting.PostingKind.TheVariants.{ExchangeIn, ExchangeOut, MeasuredOfftake, MeasuredFeedIn, LossOfftake, LossFeedIn}
@@ -19,13 +19,13 @@ posting_kinds = ExchangeIn ∷ ExchangeOut ∷ MeasuredOfftake ∷ MeasuredFeedI
 abbrev pub numbered_kind : ℕ → Option PostingKind
 numbered_kind n = numbered posting_number posting_kinds n
 
--- kinds are numbered from 1 to this
+-- kinds are numbered from 1 to this, as `posting_kinds` has them
 abbrev pub last_kind : ℕ
-last_kind = 6
+last_kind = length posting_kinds
 
 -- something for each kind
 abbrev pub each_kind : {A : Type 0} → (ℕ → A) → List A
-each_kind f = f 1 ∷ f 2 ∷ f 3 ∷ f 4 ∷ f 5 ∷ f 6 ∷ []
+each_kind f = map (λ kind. f (posting_number kind)) posting_kinds
 
 -- of a list with a number for each kind, that of one
 abbrev pub of_kind : List ℕ → ℕ → ℕ
@@ -55,7 +55,7 @@ losses posted = pos (posted (posting_number LossFeedIn)) -ℤ pos (posted (posti
 
 -- all watt-hours posted, whatever their sign
 abbrev pub gross : (ℕ → ℕ) → ℕ
-gross posted = posted 1 + posted 2 + posted 3 + posted 4 + posted 5 + posted 6
+gross posted = sum (each_kind posted)
 
 -- what was posted of each kind, with one posting more
 abbrev pub with_posting : ℕ → ℕ → (ℕ → ℕ) → ℕ → ℕ

@@ -1,17 +1,15 @@
 -- The laws, each for every history, after every event. Assumes nothing.
-use Rattle.std.specs.Prelude.{◌≡◌, ℕ, ◌<◌, List, ◌∷◌, map, pos, ◌+ℤ◌, Some, None, slice_index}
-use Rattle.fault.specs.declared.cause.Fault.{Fault}
+use Rattle.std.specs.Prelude.{◌≡◌, ℕ, ◌<◌, List, map, pos, ◌+ℤ◌, slice_index}
 use Rattle.rows.specs.declared.connection.ConnectionRow.{ConnectionRow}
 use Rattle.rows.specs.declared.group.Group.{Group}
 use Rattle.rows.specs.declared.group.GroupRow.{GroupRow}
 use Rattle.rows.specs.Registers.{register}
 use Rattle.rows.specs.Settling.{month_in, real_in}
 use Rattle.tables.specs.BookRows.{connection_rules, group_rules}
-use Rattle.ledger.specs.Checks.{first}
-use Rattle.ledger.specs.Events.{Move, Turn, History, moved, turned, move_refused, turn_refused, wants, phase, between, settled}
-use Rattle.ledger.specs.Histories.{Start, Admitted, connections, groups, move_checks, turn_checks}
+use Rattle.ledger.specs.Events.{History, phase, settled}
+use Rattle.ledger.specs.Histories.{Start, Admitted, connections, groups}
 use Rattle.ledger.specs.Keys.{Ordered, net}
-use Rattle.ledger.specs.Laws.{Lawful, Reaches, Own, Settles, PageLaw, Latest, Counts, connection_row}
+use Rattle.ledger.specs.Laws.{Lawful, Reaches, Answered, Own, Settles, PageLaw, Latest, Counts, connection_row}
 use Rattle.ledger.specs.Model.{group_at}
 use Rattle.ledger.specs.Quantities.{connection, codes, known, standing_sum, real, allocated, exchange_in, losses_in}
 use Rattle.ledger.specs.States.{State}
@@ -39,8 +37,13 @@ pub record Read (h : History) : Type 0 where
 abbrev pub Readings : Type 0
 Readings = (s : Start) (h : History) → Admitted s h → Read h
 
+-- a period closes: with the allocated volumes of the history, and with those that the rows hold
+pub record Closed (h : History) : Type 0 where
+  pub allocations : (p : ℕ) → p < 2 → exchange_in h p +ℤ losses_in h p +ℤ net (λ g. allocated h g (register 0 p) +ℤ allocated h g (register 1 p)) (known h) ≡ pos 0
+  pub rows : (p : ℕ) → p < 2 → exchange_in h p +ℤ losses_in h p +ℤ net (λ row. month_in row (register 0 p) +ℤ month_in row (register 1 p)) (groups h) ≡ pos 0
+
 abbrev pub Closing : Type 0
-Closing = (s : Start) (h : History) → Admitted s h → (p : ℕ) → p < 2 → exchange_in h p +ℤ losses_in h p +ℤ net (λ row. month_in row (register 0 p) +ℤ month_in row (register 1 p)) (groups h) ≡ pos 0
+Closing = (s : Start) (h : History) → Admitted s h → Closed h
 
 pub record Shared (h : History) : Type 0 where
   pub volumes : (g : Group) (r : ℕ) → r < 4 → month_in (group_at (groups h) g) r ≡ allocated h g r
@@ -57,17 +60,6 @@ PageBytes = (s : Start) (h : History) → Admitted s h → phase h ≡ settled �
 
 abbrev pub OwnTables : Type 0
 OwnTables = (s : Start) (h : History) → Admitted s h → Own s h
-
--- after a history, an entry that the state admits is accepted if no check speaks, and refused with the fault of the first that does; nothing else is an event
-pub record Answered (s : Start) (h : History) : Type 0 where
-  pub accepts_move : phase h ≡ between → (m : Move) → first (move_checks s h m) ≡ None → Admitted s (moved m ∷ h)
-  pub refuses_move : phase h ≡ between → (m : Move) (f : Fault) → first (move_checks s h m) ≡ Some f → Admitted s (move_refused m f ∷ h)
-  pub accepts_turn : (t : Turn) → phase h ≡ wants t → first (turn_checks s h t) ≡ None → Admitted s (turned t ∷ h)
-  pub refuses_turn : (t : Turn) (f : Fault) → phase h ≡ wants t → first (turn_checks s h t) ≡ Some f → Admitted s (turn_refused t f ∷ h)
-  pub only_moves : (m : Move) → Admitted s (moved m ∷ h) → first (move_checks s h m) ≡ None
-  pub only_refused_moves : (m : Move) (f : Fault) → Admitted s (move_refused m f ∷ h) → first (move_checks s h m) ≡ Some f
-  pub only_turns : (t : Turn) → Admitted s (turned t ∷ h) → first (turn_checks s h t) ≡ None
-  pub only_refused_turns : (t : Turn) (f : Fault) → Admitted s (turn_refused t f ∷ h) → first (turn_checks s h t) ≡ Some f
 
 abbrev pub Answers : Type 0
 Answers = (s : Start) (h : History) → Admitted s h → Answered s h

@@ -31,9 +31,9 @@ enrolment c = record { code = c; brp = 1; supplier = 1; class = 1; digits = 5; f
 abbrev nothing_yet : Sums
 nothing_yet = record { posted = each_kind (λ _. 0); volume = 0; value = pos 0 }
 
--- a month of one quarter, divided or not
+-- a month of five quarters, of which some are divided
 abbrev month : ℕ → Month
-month done = record { quarters = 1; loss_party = 7; done = done; advanced = 0; normal = nothing_yet; low = nothing_yet }
+month done = record { quarters = 5; loss_party = 7; done = done; advanced = 0; normal = nothing_yet; low = nothing_yet }
 
 -- a row of a profiled group with a standing sum for offtake
 abbrev row_with : ℕ → GroupRow
@@ -113,6 +113,7 @@ pub record Worked : Type 0 where
   -- without weights a residual of 0 is weighed, and one of 1 refused
   pub nothing_left : first (weigh_checks (month 0) (opened 0 (pos 0)) nothing []) ≡ None
   pub nothing_divided : first (divide_checks (opened 0 (pos 0)) (record { total = 0; residual = pos 0 }) []) ≡ None
+  pub nothing_booked : map (λ row. row.quarter) (divided_rows 0 (pos 0) 0 0 (weighing 1 0 0 ∷ [])) ≡ (pos 0 ∷ pos 0 ∷ []) ∷ []
   pub nothing_to_share : first (weigh_checks (month 4) (post_opened 2 1 (opened 0 (pos 0))) nothing []) ≡ Some (NothingToShare (quarter 4))
   pub thirteen : notice (NothingToShare (quarter 4)) ≡ record { number = 13; layer = Book; first = 4; second = 0; third = 0 }
   -- the longest month, and one quarter more

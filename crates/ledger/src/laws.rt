@@ -23,7 +23,7 @@ pub fn standing_sums() -> u8
     0
 }
 
-// A real volume is the signed sum of the advances read while their connections stood in the group.
+// A real volume of a profiled group is the signed sum of the advances read while their connections stood in the group.
 pub fn readings() -> u8
     ensures { Readings }
 {

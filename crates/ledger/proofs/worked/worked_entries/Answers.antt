@@ -20,6 +20,7 @@ returns c = record {
   code_notice = refl;
   nothing_left = refl;
   nothing_divided = refl;
+  nothing_booked = refl;
   nothing_to_share = refl;
   thirteen = refl;
   longest = refl;
