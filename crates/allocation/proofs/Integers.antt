@@ -1,8 +1,8 @@
 -- Products of integers, spread over sums. Assumes nothing.
-use Rattle.std.proofs.Common.{◌≡◌, ℕ, zero, suc, ◌+◌, ◌*◌, ℤ, pos, negsuc, ◌+ℤ◌, ◌-ℤ◌, ◌*ℤ◌, neg_ℤ, nat_abs, sym, refl, ap, ◌∙◌, mul-add, arith}
+use Rattle.std.proofs.Common.{◌≡◌, ℕ, zero, suc, ◌+◌, ◌*◌, ◌≤◌, ℤ, pos, negsuc, ◌+ℤ◌, ◌-ℤ◌, ◌*ℤ◌, neg_ℤ, nat_abs, sym, ap, ◌∙◌, mul-add, mul-le-mul, arith}
 use lib.IntN.{*ℤ-zero, *ℤ-negsuc, neg_ℤ-neg_ℤ}
 use borrow.Author.Differences.{up, down, sum_is_lem, same_in, product_is}
-use Rattle.std.proofs.lemmas.Int.{ints}
+use Rattle.std.proofs.lemmas.Int.{unsigned_abs-mul}
 
 spread : (t x y z : ℕ) → t * (x + y + z) ≡ t * x + t * y + t * z
 spread t x y z = omega (arith, mul-add t (x + y) z, mul-add t x y)
@@ -25,8 +25,9 @@ times_neg t (negsuc n) = sym (neg_ℤ-neg_ℤ _) ∙ ap neg_ℤ (sym (*ℤ-negsu
 pub times_difference : (t a b : ℤ) → t *ℤ (a -ℤ b) ≡ (t *ℤ a) -ℤ (t *ℤ b)
 times_difference t a b = times_sum t a (neg_ℤ b) ∙ ap (λ z. (t *ℤ a) +ℤ z) (times_neg t b)
 
+-- for the crates above
 pub product_size : (a b : ℤ) → nat_abs (a *ℤ b) ≡ nat_abs a * nat_abs b
-product_size (pos a) (pos b) = refl
-product_size (pos a) (negsuc b) = omega (arith, ints)
-product_size (negsuc a) (pos b) = omega (arith, ints)
-product_size (negsuc a) (negsuc b) = refl
+product_size a b = unsigned_abs-mul a b
+
+pub product_bounded : (a b : ℤ) (m n : ℕ) → nat_abs a ≤ m → nat_abs b ≤ n → nat_abs (a *ℤ b) ≤ m * n
+product_bounded a b m n h k = rw (unsigned_abs-mul a b) (mul-le-mul h k)

@@ -1,18 +1,17 @@
 -- A line, from its head on. Assumes nothing.
-use Rattle.std.proofs.Common.{◌≡◌, ℕ, ◌+◌, ◌<◌, ◌≤◌, List, ◌∷◌, ◌++◌, length, get_or, take, drop, set, ℤ, pos, ◌+ℤ◌, nat_abs, Some, None, sym, refl, ap, ◌∙◌, subst, arith}
-use Rattle.std.proofs.lemmas.List.{drop_more, drop_all}
+use Rattle.std.proofs.Common.{◌≡◌, ℕ, ◌+◌, ◌<◌, ◌≤◌, List, ◌∷◌, ◌++◌, length, get_or, take, drop, set, ℤ, ◌+ℤ◌, nat_abs, sym, ap, ◌∙◌, subst, arith}
+use Rattle.std.proofs.lemmas.List.{drop_more}
 use Rattle.std.proofs.lemmas.Int.{ints}
 use Rattle.fault.specs.declared.cause.Direction.{Direction}
 use Rattle.fault.specs.declared.cause.Direction.TheVariants.{Offtake, FeedIn}
-use Rattle.fault.specs.declared.cause.Fault.{Fault}
 use Rattle.allocation.specs.declared.line.Share.{Share}
 use Rattle.allocation.specs.declared.split.Running.{Running}
 use Rattle.allocation.specs.declared.split.Split.{Split}
 use Rattle.allocation.specs.Correction.{profiled}
 use Rattle.allocation.specs.Scale.{most_weights}
 use Rattle.allocation.specs.Steps.{part, Stepped}
-use Rattle.allocation.specs.Lines.{total, net, shared, divided, got_in, weights_refusal}
-use Rattle.allocation.proofs.Along.{along_more, along_end, drop_past_set}
+use Rattle.allocation.specs.Lines.{total, net, shared, divided, got_in}
+use Rattle.allocation.proofs.Along.{along_more, drop_past_set}
 
 -- t and v are what the first i weights come to
 pub record Counted (line : List Share) (i t : ℕ) (v : ℤ) : Type 0 where
@@ -20,9 +19,6 @@ pub record Counted (line : List Share) (i t : ℕ) (v : ℤ) : Type 0 where
   pub nets : v +ℤ net (drop i line) ≡ net line
   pub few : t ≤ most_weights
   pub within : nat_abs v ≤ t
-
-pub none_counted : (line : List Share) → Counted line 0 0 (pos 0)
-none_counted line = record { weights = omega arith; nets = omega (arith, ints); few = omega arith; within = omega arith }
 
 pub one_counted : (line : List Share) (i t : ℕ) (v : ℤ) (s : Share) (n : ℕ) (m : ℤ) → Counted line i t v → i < length line → n ≡ t + (get_or line i s).weight → m ≡ v +ℤ profiled (get_or line i s).direction (get_or line i s).weight → n ≤ most_weights → nat_abs m ≤ n → Counted line (i + 1) n m
 one_counted line i t v s n m h l f g few within =
@@ -34,22 +30,6 @@ one_counted line i t v s n m h l f g few within =
       within = within;
     }
 
-more_refused : (t u : ℕ) (e : Fault) → t ≤ u → weights_refusal t ≡ Some e → weights_refusal u ≡ Some e
-more_refused t u e h r = grind arith
-
-pub one_too_many : (line : List Share) (i t : ℕ) (v : ℤ) (s : Share) (e : Fault) → Counted line i t v → i < length line → weights_refusal (t + (get_or line i s).weight) ≡ Some e → weights_refusal (total line) ≡ Some e
-one_too_many line i t v s e h l r =
-    more_refused _ _ e (omega (arith, h.weights, ap total (drop_more line i s l))) r
-
-none_refused : (t : ℕ) → t ≤ most_weights → weights_refusal t ≡ None
-none_refused t h = grind arith
-
-pub all_counted : (line : List Share) (i t : ℕ) (v : ℤ) → Counted line i t v → length line ≤ i → (weights_refusal (total line) ≡ None) × ((t ≡ total line) × (v ≡ net line))
-all_counted line i t v h l =
-    let none = drop_all i line l in
-    let same : t ≡ total line = omega (arith, h.weights, ap total none) in
-    (none_refused (total line) (omega (arith, h.few)), (same, omega (arith, ints, h.nets, ap net none)))
-
 -- what a running split has handed out in one direction
 abbrev pub given : Running → Direction → ℤ
 given p Offtake = p.offtake
@@ -60,16 +40,6 @@ pub record Midway (t : ℕ) (r : ℤ) (start line : List Share) (i passed : ℕ)
   pub written : take i line ++ divided t r passed (drop i line) ≡ divided t r 0 start
   pub left : passed + total (drop i line) ≡ t
   pub gathered : (d : Direction) → out d +ℤ got_in d (divided t r passed (drop i line)) ≡ got_in d (divided t r 0 start)
-
-pub midway_start : (q : Split) (line : List Share) (p : Running) → total line ≡ q.total → p.split ≡ q → p.passed ≡ 0 → p.offtake ≡ pos 0 → p.feed_in ≡ pos 0 → (p.split ≡ q) × Midway q.total q.residual line line 0 p.passed (given p)
-midway_start q line p e same none o f = (same, subst (λ (k : ℕ). Midway q.total q.residual line line 0 k (given p)) (sym none) (record { written = refl; left = omega arith; gathered = sums }))
-  where
-    sums : (d : Direction) → given p d +ℤ got_in d (divided q.total q.residual 0 line) ≡ got_in d (divided q.total q.residual 0 line)
-    sums Offtake = omega (arith, ints)
-    sums FeedIn = omega (arith, ints)
-
-pub midway_fits : (t : ℕ) (r : ℤ) (start line : List Share) (i passed : ℕ) (out : Direction → ℤ) (s : Share) → Midway t r start line i passed out → i < length line → passed + (get_or line i s).weight ≤ t
-midway_fits t r start line i passed out s h l = omega (arith, h.left, ap total (drop_more line i s l))
 
 midway_more : (t : ℕ) (r : ℤ) (start line : List Share) (i passed : ℕ) (out next : Direction → ℤ) (s : Share) (m : ℕ) → Midway t r start line i passed out → i < length line → m ≡ passed + (get_or line i s).weight
     → ((d : Direction) → next d ≡ out d +ℤ part d (get_or line i s).direction (shared t r passed (get_or line i s)).volume)
@@ -100,9 +70,3 @@ midway_turn q start line i s y p n same h l e step =
     sums : (d : Direction) → given n d ≡ given p d +ℤ part d (get_or line i s).direction (shared q.total q.residual p.passed (get_or line i s)).volume
     sums Offtake = step.offtake ∙ ap (λ v. p.offtake +ℤ part Offtake (get_or line i s).direction v) (ap (λ x. x.volume) full)
     sums FeedIn = step.feed_in ∙ ap (λ v. p.feed_in +ℤ part FeedIn (get_or line i s).direction v) (ap (λ x. x.volume) full)
-
-pub midway_end : (t : ℕ) (r : ℤ) (start line : List Share) (i passed : ℕ) (out : Direction → ℤ) → Midway t r start line i passed out → length line ≤ i → (line ≡ divided t r 0 start) × ((d : Direction) → out d ≡ got_in d line)
-midway_end t r start line i passed out h l =
-    let none = drop_all i line l in
-    let same : line ≡ divided t r 0 start = along_end (λ b x. b + x.weight) (shared t r) _ line i passed h.written l in
-    (same, λ d. omega (arith, ints, h.gathered d, ap (λ xs. got_in d (divided t r passed xs)) none, ap (got_in d) same))

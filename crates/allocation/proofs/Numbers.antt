@@ -1,9 +1,6 @@
 -- Bounds of products and quotients. Assumes nothing.
-use Rattle.std.proofs.Common.{ℕ, zero, suc, ◌+◌, ◌*◌, ◌/◌, ◌<◌, ◌≤◌, mul_comm, div-lt_iff_lt-mul, mul-le-mul, mul-le-mul_left, arith}
+use Rattle.std.proofs.Common.{ℕ, zero, suc, ◌+◌, ◌*◌, ◌/◌, ◌<◌, ◌≤◌, mul_comm, div-lt_iff_lt-mul, mul-le-mul_left, arith}
 use native.Mathlib.Nat.{div-le_of_le-mul, div-zero, lt-mul-div-succ}
-
-pub product_within : (a b m n : ℕ) → a ≤ m → b ≤ n → a * b ≤ m * n
-product_within a b m n h k = mul-le-mul h k
 
 -- the part w of t, times n, is at most n
 pub part_within : (n w t : ℕ) → w ≤ t → n * w / t ≤ n

@@ -1,10 +1,11 @@
 -- What the running split gives. Assumes nothing.
-use Rattle.std.proofs.Common.{◌≡◌, ℕ, suc, ◌+◌, ◌*◌, ◌/◌, ◌%◌, ◌<◌, ◌≤◌, ℤ, pos, negsuc, ◌+ℤ◌, ◌-ℤ◌, ◌*ℤ◌, neg_ℤ, nat_abs, ◌<ℤ◌, refl, ap, ◌∙◌, mod-lt, mul_comm, mul-le-mul_left, mul-zero, mul-div_cancel, arith}
+use Rattle.std.proofs.Common.{◌≡◌, ℕ, zero, suc, ◌+◌, ◌*◌, ◌/◌, ◌%◌, ◌<◌, ◌≤◌, ℤ, pos, negsuc, ◌+ℤ◌, ◌-ℤ◌, ◌*ℤ◌, neg_ℤ, nat_abs, ◌<ℤ◌, int_div, refl, ap, ◌∙◌, mod-lt, mul_comm, mul-le-mul_left, mul-zero, mul-div_cancel, arith}
 use native.Mathlib.Nat.{div-zero, zero-div, div-add-mod}
 use lib.IntN.{*ℤ_comm, zero-*ℤ}
 use Rattle.std.proofs.lemmas.Int.{ints}
 use Rattle.fault.specs.declared.cause.Direction.{Direction}
 use Rattle.fault.specs.declared.cause.Direction.TheVariants.{Offtake, FeedIn}
+use Rattle.allocation.specs.declared.split.Running.{Running}
 use Rattle.allocation.specs.Correction.{signed, share, correction_of, profiled, corrected, rcf, exact, Near}
 use Rattle.allocation.specs.Steps.{part}
 use Rattle.allocation.proofs.Integers.{times_sum, times_neg, times_difference}
@@ -37,6 +38,16 @@ share_none w r = ap (signed r) (div-zero (nat_abs r * w)) ∙ signed_none r
 pub share_whole : (t : ℕ) (r : ℤ) → 0 < t → share t r t ≡ r
 unfolding share
 share_whole t r h = ap (signed r) (mul-div_cancel (nat_abs r) h) ∙ signed_self r
+
+quotient_below : (m t : ℕ) → int_div (neg_ℤ (pos m)) (pos t) ≡ neg_ℤ (pos (m / t))
+quotient_below zero t = rw (zero-div t) refl
+quotient_below (suc m) t = refl
+
+-- F(W) is the quotient of R × W by T that drops the remainder
+pub share_quotient : (t w : ℕ) (r : ℤ) → int_div (r *ℤ pos w) (pos t) ≡ share t r w
+unfolding share
+share_quotient t w (pos n) = refl
+share_quotient t w (negsuc n) = quotient_below (suc n * w) t
 
 rest_below : (t q x p : ℕ) → t * q + x ≡ p → (pos t *ℤ neg_ℤ (pos q)) +ℤ neg_ℤ (pos x) ≡ neg_ℤ (pos p)
 rest_below t q x p e = ap (λ z. z +ℤ neg_ℤ (pos x)) (times_neg (pos t) (pos q)) ∙ omega (arith, ints)
@@ -99,9 +110,9 @@ unfolding correction_of share
 size_grows t before w (pos n) = let h : n * before / t ≤ n * (before + w) / t = quotient_grows t _ _ (mul-le-mul_left n (omega arith)) in omega (arith, ints)
 size_grows t before w (negsuc n) = let h : suc n * before / t ≤ suc n * (before + w) / t = quotient_grows t _ _ (mul-le-mul_left (suc n) (omega arith)) in omega (arith, ints)
 
--- what a running split has given out stays within T and |R|
-pub given_within : (t passed : ℕ) (r o f : ℤ) → passed ≤ t → nat_abs o + nat_abs f ≤ passed + nat_abs (share t r passed) → nat_abs o + nat_abs f ≤ t + nat_abs r
-given_within t passed r o f h b = omega (arith, share_within t passed r h)
+-- what a running split has given out stays within T and |R|, and so within their limits
+pub given_within : (p : Running) → nat_abs p.offtake + nat_abs p.feed_in ≤ 4000000000
+given_within p = omega (arith, share_within p.split.total p.passed p.split.residual p.within, p.bounded, p.split.few, p.split.small)
 
 pub given_grows : (t passed w : ℕ) (r o f v : ℤ) (d : Direction) → nat_abs o + nat_abs f ≤ passed + nat_abs (share t r passed) → nat_abs v ≤ w + nat_abs (correction_of t r passed w) → nat_abs (o +ℤ part Offtake d v) + nat_abs (f +ℤ part FeedIn d v) ≤ passed + w + nat_abs (share t r (passed + w))
 given_grows t passed w r o f v Offtake h k = omega (arith, ints, size_grows t passed w r)

@@ -26,9 +26,13 @@ abbrev pub net : List Share → ℤ
 net [] = pos 0
 net (s ∷ ss) = profiled s.direction s.weight +ℤ net ss
 
+-- R of what was posted, for the net V of the weights
+abbrev pub posted_residual : Posted → ℤ → ℤ
+posted_residual p v = residual_of p.exchange p.measured v p.losses
+
 -- R
 abbrev pub residual : Posted → List Share → ℤ
-residual p ss = residual_of p.exchange p.measured (net ss) p.losses
+residual p ss = posted_residual p (net ss)
 
 -- a share with its correction, after the weights before it
 abbrev pub shared : ℕ → ℤ → ℕ → Share → Share

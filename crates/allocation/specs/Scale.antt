@@ -1,5 +1,5 @@
 -- The unit of fractions and the bounds of the subject, each in one place. Assumes nothing.
-use Rattle.std.specs.Prelude.{ℕ, ◌+◌, ◌*◌, ◌/◌}
+use Rattle.std.specs.Prelude.{ℕ, ◌+◌, ◌*◌, ◌/◌, ◌<◌, ◌≤◌}
 
 -- the fraction at which a standing sum of 1 kWh weighs 1 Wh
 abbrev pub unit : ℕ
@@ -40,6 +40,10 @@ most_volume = 13000000000000
 -- the watt-hours of a megawatt-hour
 abbrev pub per_mwh : ℕ
 per_mwh = 1000000
+
+-- so many watt-hours are the nearest to these parts of them, a half upward
+abbrev pub Nearest : ℕ → ℕ → Type 0
+Nearest parts wh = (wh * unit ≤ parts + unit / 2) × (parts + unit / 2 < (wh + 1) * unit)
 
 -- what the profile gives: fraction × standing sum, rounded to the nearest watt-hour, a half upward
 unfoldable pub weight_of : ℕ → ℕ → ℕ

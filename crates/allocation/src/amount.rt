@@ -1,54 +1,22 @@
 // Prices and amounts of a settled month.
-ghost use Rattle.std.specs.Prelude.{◌≡◌, ◌+◌, ◌*◌, ◌^◌, ◌<◌, ◌≤◌, pos, ◌+ℤ◌, ◌-ℤ◌, ◌*ℤ◌, ◌<ℤ◌, Some, None, Ok, Err, unsigned_abs};
-ghost use Rattle.std.specs.Int.{int_div_euclid};
+ghost use Rattle.std.specs.Prelude.{◌≡◌, ◌+◌, ◌*◌, ◌<◌, ◌≤◌, pos, ◌+ℤ◌, ◌*ℤ◌, Some, None, Ok, Err, unsigned_abs};
 ghost use Rattle.allocation.specs.Refusals.{Decided};
 ghost use Rattle.allocation.specs.Scale.{most_quarters};
-ghost use Rattle.allocation.specs.Settling.{floor, Floor, price_of, value_at, amount_of, total_refusal, Cent};
+ghost use Rattle.allocation.specs.Settling.{Floor, price_of, value_at, amount_of, total_refusal, Cent};
 ghost use Rattle.allocation.specs.Amounts.{priced_at, totals_refusal, Settles};
 
-use crate::exact::{product, wide_sum};
 use crate::range::{MOST_QUARTERS, MOST_VOLUME, Price, PricedVolume};
 use crate::sums::{PriceSums, Reconciled, Settling};
 use fault::{Fault, Limit};
 
-const WH_PER_MWH: u64 = 1_000_000;
+const WH_PER_MWH: i64 = 1_000_000;
 
 // D × price of one quarter.
-fn worth(priced: u64, cents: i64) -> i64
-    requires few { priced ≤ 4000000000 }
-    requires small { unsigned_abs cents ≤ 500000 }
-    ensures value { result ≡ pos priced *ℤ cents }
-    ensures bound { unsigned_abs result ≤ priced * 500000 }
+fn worth(priced: PricedVolume, price: Price) -> i64
+    ensures value { result ≡ pos priced.wh *ℤ price.cents }
+    ensures bound { unsigned_abs result ≤ priced.wh * 500000 }
 {
-    product(priced as i64, cents)
-}
-
-// A quotient rounded down, towards minus infinity.
-fn floored(dividend: i64, divisor: i64) -> i64
-    requires { pos 0 <ℤ divisor }
-    ensures { result ≡ int_div_euclid dividend divisor }
-{
-    dividend.div_euclid(divisor)
-}
-
-// The same by an unsigned divisor.
-fn floor_of(dividend: i64, divisor: u64) -> i64
-    requires some { 0 < divisor }
-    requires few { divisor < 2 ^ 63 }
-    ensures { result ≡ floor dividend divisor }
-{
-    floored(dividend, divisor as i64)
-}
-
-// The mean of a period that has volume.
-fn weighted(sums: PriceSums) -> Price
-    requires { 0 < sums.volume }
-    ensures value { result.cents ≡ price_of sums.value sums.volume }
-    ensures floor { Floor sums.value sums.volume result.cents }
-{
-    Price {
-        cents: floor_of(sums.value, sums.volume),
-    }
+    priced.wh as i64 * price.cents
 }
 
 impl PriceSums {
@@ -75,7 +43,7 @@ impl PriceSums {
         Some(PriceSums {
             quarters: self.quarters + 1,
             volume: self.volume + priced.wh,
-            value: self.value + worth(priced.wh, price.cents),
+            value: self.value + worth(priced, price),
         })
     }
 
@@ -88,7 +56,9 @@ impl PriceSums {
         if self.volume == 0 {
             return Price { cents: 0 };
         }
-        weighted(self)
+        Price {
+            cents: self.value.div_euclid(self.volume as i64),
+        }
     }
 }
 
@@ -98,14 +68,7 @@ fn value_of(price: Price, total: i64) -> i64
     ensures value { result ≡ value_at price.cents total }
     ensures bound { unsigned_abs result ≤ 6500000000000 }
 {
-    floor_of(product(total, price.cents), WH_PER_MWH)
-}
-
-fn difference(a: i64, b: i64) -> i64
-    requires { unsigned_abs a + unsigned_abs b ≤ 2 ^ 62 }
-    ensures { result ≡ a -ℤ b }
-{
-    a - b
+    (total * price.cents).div_euclid(WH_PER_MWH)
 }
 
 impl Settling {
@@ -121,11 +84,10 @@ impl Settling {
     fn next(self, volume: i64) -> Result<i64, Fault>
         ensures { Decided (total_refusal (self.total +ℤ volume)) result (λ s. s ≡ self.total +ℤ volume) }
     {
-        let next = wide_sum(self.total as i128, volume);
-        if next.unsigned_abs() > MOST_VOLUME as u128 {
-            return Err(Fault::LimitPassed(Limit::Volume));
+        match self.total.checked_add(volume) {
+            Some(next) if next.unsigned_abs() <= MOST_VOLUME => Ok(next),
+            _ => Err(Fault::LimitPassed(Limit::Volume)),
         }
-        Ok(next as i64)
     }
 
     // The amount of one volume more, in cents; a running total beyond its limit is refused.
@@ -137,7 +99,7 @@ impl Settling {
         let after = value_of(self.price, next);
         let before = value_of(self.price, self.total);
         self.total = next;
-        Ok(difference(after, before))
+        Ok(after - before)
     }
 }
 
@@ -148,10 +110,7 @@ fn price_one(one: &mut Reconciled, settling: &mut Settling)
     ensures price { settling.new.price ≡ settling.old.price }
     ensures total { settling.new.total ≡ settling.old.total +ℤ one.old.volume }
 {
-    match settling.amount(one.volume) {
-        Ok(amount) => one.amount = amount,
-        Err(_) => unreachable(),
-    }
+    one.amount = settling.amount(one.volume).unwrap();
 }
 
 // Whether every running total of the line is within its limit.
@@ -160,7 +119,7 @@ fn totals_within(line: &[Reconciled], price: Price) -> Result<(), Fault>
 {
     let mut settling = Settling::new(price);
     for one in line {
-        let _ = settling.amount(one.volume)?;
+        settling.amount(one.volume)?;
     }
     Ok(())
 }

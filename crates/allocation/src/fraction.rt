@@ -2,7 +2,7 @@
 ghost use Rattle.std.specs.Prelude.{◌≡◌, ◌+◌, ◌*◌, ◌/◌, ◌<◌, ◌≤◌, Some, None, Ok, Err};
 ghost use Rattle.fault.specs.declared.cause.Fault.TheVariants.{LimitPassed};
 ghost use Rattle.fault.specs.declared.cause.Limit.TheVariants.{StandingSum as SumLimit};
-ghost use Rattle.allocation.specs.Scale.{unit, whole, most_standing, weight_of};
+ghost use Rattle.allocation.specs.Scale.{unit, whole, most_standing, weight_of, Nearest};
 
 use fault::{Fault, Limit};
 
@@ -14,6 +14,8 @@ pub const WHOLE: u32 = 1_000_000;
 const MOST_STANDING: u64 = 10_000_000_000;
 
 // The part of a standard year volume that falls into one quarter, as a profile has it.
+// This, StandingSum, Price, PricedVolume and profile's Quarters are each a number with a bound. One generic type is no plainer:
+// it needs a tag beside each bound to keep kWh and Wh, cents and quarters apart, and Price has a sign, StandingSum a fault of its own.
 #[derive(Clone, Copy)]
 pub struct Fraction {
     parts: u32,
@@ -64,20 +66,31 @@ impl StandingSum {
 }
 
 // Parts of watt-hours, to the nearest watt-hour; a half is rounded up.
-fn rounded(parts: u64) -> u64
-    requires { parts ≤ 10000000000000000 }
+fn rounded(parts: u128) -> u128
+    requires { parts ≤ 18446744073709551616000000 }
     ensures value { result ≡ (parts + unit / 2) / unit }
-    ensures nearest { (result * unit ≤ parts + unit / 2) × (parts + unit / 2 < (result + 1) * unit) }
-    ensures bound { result ≤ 100000000000 }
+    ensures nearest { Nearest parts result }
 {
-    (parts + UNIT / 2) / UNIT
+    let unit = u128::from(UNIT);
+    (parts + unit / 2) / unit
 }
 
-// What the profile gives a group in one direction of a quarter, in Wh.
+// What the profile gives, in Wh, for a sum in kWh that no bound keeps small: a row of someone else's may hold any.
+pub fn wide_weight(fraction: Fraction, kwh: u64) -> u128
+    ensures value { result ≡ weight_of fraction.parts kwh }
+    ensures nearest { Nearest (fraction.parts * kwh) result }
+    ensures bound { result ≤ 200000000000000000000 }
+    ensures few { kwh ≤ most_standing → result ≤ 100000000000 }
+{
+    rounded(u128::from(fraction.parts()) * u128::from(kwh))
+}
+
+// What the profile gives a group in one direction of a quarter, in Wh. It is `wide_weight` in the narrower type that a sum within its limit allows,
+// so that whoever has one need not bound the answer again.
 pub fn weight(fraction: Fraction, sum: StandingSum) -> u64
     ensures value { result ≡ weight_of fraction.parts sum.kwh }
-    ensures nearest { (result * unit ≤ fraction.parts * sum.kwh + unit / 2) × (fraction.parts * sum.kwh + unit / 2 < (result + 1) * unit) }
+    ensures nearest { Nearest (fraction.parts * sum.kwh) result }
     ensures bound { result ≤ 100000000000 }
 {
-    rounded(fraction.parts() as u64 * sum.kwh())
+    wide_weight(fraction, sum.kwh()) as u64
 }

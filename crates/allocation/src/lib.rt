@@ -2,7 +2,6 @@
 #![tactic(auto)]
 
 pub mod amount;
-mod exact;
 pub mod fraction;
 pub mod line;
 pub mod quarter;
@@ -10,14 +9,12 @@ pub mod range;
 pub mod running;
 pub mod split;
 pub mod sums;
-pub mod wide;
 pub mod worked;
 
 pub use amount::amounts;
-pub use fraction::{Fraction, StandingSum, weight};
+pub use fraction::{Fraction, StandingSum, weight, wide_weight};
 pub use line::{Allocated, Posted, Share, Weights};
 pub use quarter::allocate;
 pub use range::{Price, PricedVolume};
 pub use split::{Corrected, Running, Split};
 pub use sums::{PriceSums, Reconciled, Settling};
-pub use wide::wide_weight;

@@ -1,13 +1,13 @@
 // One quarter, whole: its weights added up, its residual found and shared out.
-ghost use Rattle.std.specs.Prelude.{◌≡◌, ◌+◌, ◌^◌, ◌<◌, ◌≤◌, pos, ◌+ℤ◌, neg_ℤ, Ok, Err};
-ghost use Rattle.allocation.specs.Correction.{profiled, residual_of};
-ghost use Rattle.allocation.specs.Lines.{total, net, residual, shared, divided, got_in, priced, weights_refusal, residual_refusal, quarter_refusal, Divides};
+ghost use Rattle.std.specs.Prelude.{◌≡◌, ◌+◌, ◌≤◌, pos, ◌+ℤ◌, ◌-ℤ◌, neg_ℤ, Ok, Err};
+ghost use Rattle.allocation.specs.Correction.{profiled};
+ghost use Rattle.allocation.specs.Lines.{total, net, posted_residual, residual, shared, divided, priced, weights_refusal, residual_refusal, quarter_refusal, Divides};
 ghost use Rattle.allocation.specs.Refusals.{Decided, split_refusal};
 ghost use Rattle.allocation.specs.Steps.{Stepped};
 
-use crate::exact::wide_sum;
 use crate::line::{Allocated, Posted, Share, Weights};
 use crate::range::{MOST_RESIDUAL, MOST_WEIGHTS, PricedVolume};
+use crate::running::profiled;
 use crate::split::{Running, Split};
 use fault::{Direction, Fault, Limit, Quarter};
 
@@ -26,6 +26,20 @@ impl Share {
 }
 
 impl Weights {
+    // All offtake weights and all feed-in weights, whatever two numbers these are.
+    pub fn new(offtake: u128, feed_in: u128) -> Result<Weights, Fault>
+        ensures { Decided (weights_refusal (offtake + feed_in)) result (λ w. (w.total ≡ offtake + feed_in) × (w.net ≡ pos feed_in -ℤ pos offtake)) }
+    {
+        let most = u128::from(MOST_WEIGHTS);
+        if offtake > most || feed_in > most - offtake {
+            return Err(Fault::LimitPassed(Limit::Weights));
+        }
+        Ok(Weights {
+            total: (offtake + feed_in) as u64,
+            net: feed_in as i64 - offtake as i64,
+        })
+    }
+
     // One weight more, which keeps the total within its limit.
     fn counted(self, direction: Direction, weight: u64) -> Result<Weights, Fault>
         ensures { Decided (weights_refusal (self.total + weight)) result (λ n. (n.total ≡ self.total + weight) × (n.net ≡ self.net +ℤ profiled direction weight)) }
@@ -33,13 +47,9 @@ impl Weights {
         if weight > MOST_WEIGHTS - self.total {
             return Err(Fault::LimitPassed(Limit::Weights));
         }
-        let net = match direction {
-            Direction::Offtake => self.net - weight as i64,
-            Direction::FeedIn => self.net + weight as i64,
-        };
         Ok(Weights {
             total: self.total + weight,
-            net,
+            net: self.net + profiled(direction, weight),
         })
     }
 
@@ -53,13 +63,21 @@ impl Weights {
         }
         Ok(weights)
     }
+
+    // T and R of a quarter, within their limits, with R carried by some weight.
+    pub fn split(self, posted: Posted, quarter: Quarter) -> Result<Split, Fault>
+        ensures { Decided (split_refusal self.total (posted_residual posted self.net) quarter) result (λ s. (s.total ≡ self.total) × (s.residual ≡ posted_residual posted self.net)) }
+    {
+        let residual = posted.residual(self.net)?;
+        Split::new(self.total, residual, quarter)
+    }
 }
 
 // What is left, with the other sign, within the limit of a residual.
 fn opposite(left: i128) -> Result<i64, Fault>
     ensures { Decided (residual_refusal (neg_ℤ left)) result (λ x. x ≡ neg_ℤ left) }
 {
-    if left.unsigned_abs() > MOST_RESIDUAL as u128 {
+    if left.unsigned_abs() > u128::from(MOST_RESIDUAL) {
         return Err(Fault::LimitPassed(Limit::Residual));
     }
     Ok((-left) as i64)
@@ -68,12 +86,14 @@ fn opposite(left: i128) -> Result<i64, Fault>
 impl Posted {
     // R, for the net V of the weights: what is left of the quarter, with the other sign.
     pub fn residual(self, net: i64) -> Result<i64, Fault>
-        ensures { Decided (residual_refusal (residual_of self.exchange self.measured net self.losses)) result (λ x. x ≡ residual_of self.exchange self.measured net self.losses) }
+        ensures { Decided (residual_refusal (posted_residual self net)) result (λ x. x ≡ posted_residual self net) }
     {
-        let exchanged = wide_sum(0, self.exchange);
-        let measured = wide_sum(exchanged, self.measured);
-        let profiled = wide_sum(measured, net);
-        opposite(wide_sum(profiled, self.losses))
+        opposite(
+            i128::from(self.exchange)
+                + i128::from(self.measured)
+                + i128::from(net)
+                + i128::from(self.losses),
+        )
     }
 }
 
@@ -101,14 +121,6 @@ fn correct_line(line: &mut [Share], split: Split) -> PricedVolume
     running.priced()
 }
 
-// T and R of a quarter, within their limits, with R carried by some weight.
-fn split_of(weights: Weights, posted: Posted, quarter: Quarter) -> Result<Split, Fault>
-    ensures { Decided (split_refusal weights.total (residual_of posted.exchange posted.measured weights.net posted.losses) quarter) result (λ s. (s.total ≡ weights.total) × (s.residual ≡ residual_of posted.exchange posted.measured weights.net posted.losses)) }
-{
-    let residual = posted.residual(weights.net)?;
-    Split::new(weights.total, residual, quarter)
-}
-
 // Gives the line its corrections, and tells what they come to: a divided quarter, for all postings of which the split has the residual.
 fn correct_quarter(line: &mut [Share], weights: Weights, split: Split) -> Allocated
     requires { total line.old ≡ split.total }
@@ -128,6 +140,6 @@ pub fn allocate(line: &mut [Share], posted: Posted, quarter: Quarter) -> Result<
     ensures same { elim result [ Ok a ↦ Unit {0} | Err e ↦ line.new ≡ line.old ] }
 {
     let weights = Weights::of(line)?;
-    let split = split_of(weights, posted, quarter)?;
+    let split = weights.split(posted, quarter)?;
     Ok(correct_quarter(line, weights, split))
 }

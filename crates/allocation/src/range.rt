@@ -10,7 +10,8 @@ pub(crate) const MOST_RESIDUAL: u64 = 2_000_000_000;
 
 const MOST_PRICED: u64 = MOST_WEIGHTS + MOST_RESIDUAL;
 
-pub(crate) const MOST_QUARTERS: u32 = 2_980;
+// The longest month: 31 days and the hour that autumn adds.
+pub const MOST_QUARTERS: u32 = 2_980;
 
 pub const MOST_VOLUME: u64 = 13_000_000_000_000;
 

@@ -1,6 +1,6 @@
 // The running split: each weight's correction is what the split has given out after it, less what it had before it.
-ghost use Rattle.std.specs.Prelude.{◌≡◌, ◌+◌, ◌<◌, ◌≤◌, pos, ◌+ℤ◌, Ok, Err, unsigned_abs};
-ghost use Rattle.allocation.specs.Correction.{signed, share, correction_of, profiled, exact, Near};
+ghost use Rattle.std.specs.Prelude.{◌≡◌, ◌+◌, ◌≤◌, pos, ◌+ℤ◌, Ok, Err, unsigned_abs};
+ghost use Rattle.allocation.specs.Correction.{share, correction_of, profiled, exact, Near};
 ghost use Rattle.allocation.specs.Refusals.{Decided, split_refusal, step_refusal, end_refusal};
 ghost use Rattle.allocation.specs.Steps.{Stepped, part};
 
@@ -8,39 +8,37 @@ use crate::range::{MOST_RESIDUAL, MOST_WEIGHTS, PricedVolume};
 use crate::split::{Corrected, Running, Split};
 use fault::{Direction, Fault, Limit, Quarter};
 
-fn with_sign(size: u64, sign: i64) -> i64
-    requires { size ≤ 2000000000 }
-    ensures { result ≡ signed sign size }
+// A weight as a volume that has got nothing: offtake is negative.
+pub(crate) fn profiled(direction: Direction, weight: u64) -> i64
+    requires { weight ≤ 2000000000 }
+    ensures value { result ≡ profiled direction weight }
+    ensures bound { unsigned_abs result ≤ weight }
 {
-    if sign < 0 {
-        -(size as i64)
-    } else {
-        size as i64
+    match direction {
+        Direction::Offtake => -(weight as i64),
+        Direction::FeedIn => weight as i64,
     }
 }
 
-// Offtake is negative.
+// What a weight comes to with its correction.
 fn volume_of(direction: Direction, weight: u64, correction: i64) -> i64
     requires few { weight ≤ 2000000000 }
     requires small { unsigned_abs correction ≤ 2000000000 }
     ensures value { result ≡ profiled direction weight +ℤ correction }
     ensures bound { unsigned_abs result ≤ weight + unsigned_abs correction }
 {
-    match direction {
-        Direction::Offtake => correction - weight as i64,
-        Direction::FeedIn => correction + weight as i64,
-    }
+    profiled(direction, weight) + correction
 }
 
-// The total of one direction, with one volume more.
+// The total of one direction, with one volume more. No match that changes one of the two totals: its proof would have the joined pair to take apart.
 fn gathered(wanted: Direction, total: i64, direction: Direction, volume: i64) -> i64
     requires { unsigned_abs total + unsigned_abs volume ≤ 8000000000 }
     ensures { result ≡ total +ℤ part wanted direction volume }
 {
-    match (wanted, direction) {
-        (Direction::Offtake, Direction::Offtake) => total + volume,
-        (Direction::FeedIn, Direction::FeedIn) => total + volume,
-        _ => total,
+    if direction == wanted {
+        total + volume
+    } else {
+        total
     }
 }
 
@@ -69,10 +67,7 @@ impl Split {
         if self.total == 0 {
             return 0;
         }
-        with_sign(
-            self.residual.unsigned_abs() * passed / self.total,
-            self.residual,
-        )
+        self.residual * passed as i64 / self.total as i64
     }
 
     // What one weight gains.
@@ -109,14 +104,9 @@ impl Running {
     {
         let correction = self.split.gain(self.passed, weight);
         let volume = volume_of(direction, weight, correction);
-        let offtake = gathered(Direction::Offtake, self.offtake, direction, volume);
-        let feed_in = gathered(Direction::FeedIn, self.feed_in, direction, volume);
-        *self = Running {
-            split: self.split,
-            passed: self.passed + weight,
-            offtake,
-            feed_in,
-        };
+        self.offtake = gathered(Direction::Offtake, self.offtake, direction, volume);
+        self.feed_in = gathered(Direction::FeedIn, self.feed_in, direction, volume);
+        self.passed += weight;
         Corrected { correction, volume }
     }
 

@@ -1,7 +1,7 @@
 // T and R of a quarter, and the running split of R along its line of weights.
-ghost use Rattle.std.specs.Prelude.{◌≡◌, ◌+◌, ◌<◌, ◌≤◌, pos, unsigned_abs};
+ghost use Rattle.std.specs.Prelude.{◌≡◌, ◌+◌, ◌≤◌, pos, unsigned_abs};
 ghost use Rattle.allocation.specs.Scale.{most_weights, most_residual};
-ghost use Rattle.allocation.specs.Correction.{signed, share};
+ghost use Rattle.allocation.specs.Correction.{share};
 
 // The total T of a quarter's weights and its residual R, which some weight carries.
 #[derive(Clone, Copy)]

@@ -1,8 +1,6 @@
 ghost use Rattle.allocation.specs.Worked.{Worked};
 
-// The worked quarters, from the definitions that the other contracts cite. The number has no meaning.
-pub fn worked_quarters() -> u8
+// The worked quarters, from the definitions that the other contracts cite.
+pub fn worked_quarters()
     ensures { Worked }
-{
-    0
-}
+{}

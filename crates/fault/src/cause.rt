@@ -1,73 +1,81 @@
 // The causes of refusal, and what each can name. Each has a type of its own, so that a byte place is never taken for a length.
 
 // The place of an argument in its entry, counted from 1.
-#[derive(Clone, Copy, Debug)]
+#[derive(Clone, Copy, PartialEq, Eq, Debug)]
 pub struct Position(pub u8);
 
 // The code of a connection.
-#[derive(Clone, Copy, Debug)]
+#[derive(Clone, Copy, PartialEq, Eq, Debug)]
 pub struct Code(pub u64);
 
 // A quarter-hour of the month, counted from 0.
-#[derive(Clone, Copy, Debug)]
+#[derive(Clone, Copy, PartialEq, Eq, Debug)]
 pub struct Quarter(pub u32);
 
 // A number of bytes.
-#[derive(Clone, Copy, Debug)]
+#[derive(Clone, Copy, PartialEq, Eq, Debug)]
 pub struct Length(pub u64);
 
 // The place of a byte in a stream or a page, counted from 0.
-#[derive(Clone, Copy, Debug)]
+#[derive(Clone, Copy, PartialEq, Eq, Debug)]
 pub struct BytePlace(pub u64);
 
+// What a profile source is asked for: the fraction of a class, a direction and a quarter. These are numbers and no kinds: a source may be asked anything, and names what it was asked.
+#[derive(Clone, Copy, PartialEq, Eq, Debug)]
+pub struct Question {
+    pub class: u8,
+    pub direction: u8,
+    pub quarter: Quarter,
+}
+
 // Which way energy flows: out of the grid to a connection, or from it into the grid.
-#[derive(Clone, Copy, Debug)]
+#[derive(Clone, Copy, PartialEq, Eq, Debug)]
 pub enum Direction {
-    Offtake,
-    FeedIn,
+    Offtake = 0,
+    FeedIn = 1,
 }
 
 // The tariff period of a quarter.
-#[derive(Clone, Copy, Debug)]
+#[derive(Clone, Copy, PartialEq, Eq, Debug)]
 pub enum Period {
-    Normal,
-    Low,
+    Normal = 0,
+    Low = 1,
 }
 
 // One of the four counters of a meter.
-#[derive(Clone, Copy, Debug)]
+#[derive(Clone, Copy, PartialEq, Eq, Debug)]
 pub struct Register {
     pub direction: Direction,
     pub period: Period,
 }
 
 // Which of the book's two tables.
-#[derive(Clone, Copy, Debug)]
+#[derive(Clone, Copy, PartialEq, Eq, Debug)]
 pub enum TableKind {
-    Connections,
-    Groups,
+    Connections = 1,
+    Groups = 2,
 }
 
 // The bounds that keep every sum exact.
-#[derive(Clone, Copy, Debug)]
+#[derive(Clone, Copy, PartialEq, Eq, Debug)]
 pub enum Limit {
     // the total T of a quarter's weights
-    Weights,
+    Weights = 1,
     // the size of a quarter's residual R
-    Residual,
+    Residual = 2,
     // all watt-hours posted in a quarter
-    Postings,
+    Postings = 3,
     // a standing sum
-    StandingSum,
+    StandingSum = 4,
     // all advances of the month
-    Advances,
+    Advances = 5,
     // a month volume, a real volume or a running total S
-    Volume,
+    Volume = 6,
 }
 
 // The causes for which an entry is refused, in the order of their numbers.
 // A new cause is a case here, a line of `notice` in specs/, an arm of `Fault::notice` and one of `Display`.
-#[derive(Clone, Copy, Debug)]
+#[derive(Clone, Copy, PartialEq, Eq, Debug)]
 pub enum Fault {
     // an argument outside its range
     OutOfRange(Position),
@@ -87,8 +95,8 @@ pub enum Fault {
     MonthUnfinished(Quarter),
     // switch, leave, settle: the connection was not read at the running quarter
     NotRead(Code),
-    // weigh: the source has no fraction; class and direction as they were asked
-    FractionAbsent(u8, u8, Quarter),
+    // weigh: the source has no fraction; the question as it was asked
+    FractionAbsent(Question),
     // tables that do not belong to this state
     ForeignTables,
     // a sum beyond its bound

@@ -7,7 +7,7 @@ pub mod notice;
 mod number;
 
 pub use cause::{
-    BytePlace, Code, Direction, Fault, Length, Limit, Period, Position, Quarter, Register,
-    TableKind,
+    BytePlace, Code, Direction, Fault, Length, Limit, Period, Position, Quarter, Question,
+    Register, TableKind,
 };
 pub use notice::{Layer, Notice};

@@ -1,19 +1,20 @@
+// Faults as the numbers of a fault record.
 ghost use Rattle.std.specs.Prelude.{◌≡◌};
 ghost use Rattle.fault.specs.Notices.{notice, layer_number};
 
 use crate::cause::Fault;
 
 // Where a fault arose.
-#[derive(Clone, Copy, Debug)]
+#[derive(Clone, Copy, PartialEq, Eq, Debug)]
 pub enum Layer {
-    Table,
-    Source,
-    Book,
-    Stream,
+    Table = 1,
+    Source = 2,
+    Book = 3,
+    Stream = 4,
 }
 
-// A fault as numbers: what a fault record holds. Unused places are 0.
-#[derive(Clone, Copy, Debug)]
+// A fault as the numbers that the bytes of a fault record hold, and not as kinds: `Fault` has those. Unused places are 0.
+#[derive(Clone, Copy, PartialEq, Eq, Debug)]
 pub struct Notice {
     pub number: u8,
     pub layer: Layer,
@@ -22,16 +23,19 @@ pub struct Notice {
     pub third: u64,
 }
 
+impl From<Layer> for u8 {
+    ghost from_gives = { λ layer number. number ≡ layer_number layer };
+
+    fn from(layer: Layer) -> u8 {
+        layer as u8
+    }
+}
+
 impl Layer {
     pub fn number(self) -> u8
         ensures { result ≡ layer_number self }
     {
-        match self {
-            Layer::Table => 1,
-            Layer::Source => 2,
-            Layer::Book => 3,
-            Layer::Stream => 4,
-        }
+        u8::from(self)
     }
 }
 
@@ -53,25 +57,25 @@ impl Fault {
         ensures { result ≡ notice self }
     {
         match self {
-            Fault::OutOfRange(position) => says(1, Layer::Book, position.0 as u64),
+            Fault::OutOfRange(position) => says(1, Layer::Book, u64::from(position.0)),
             Fault::BadCode(code) => says(2, Layer::Book, code.0),
             Fault::CodePresent(code) => says(3, Layer::Table, code.0),
             Fault::NotEnrolled(code) => says(4, Layer::Table, code.0),
-            Fault::StandTooLarge(register) => says(5, Layer::Book, register.number() as u64),
-            Fault::NoPlace(table) => says(6, Layer::Table, table.number() as u64),
-            Fault::MonthFull(quarter) => says(7, Layer::Book, quarter.0 as u64),
-            Fault::MonthUnfinished(quarter) => says(8, Layer::Book, quarter.0 as u64),
+            Fault::StandTooLarge(register) => says(5, Layer::Book, u64::from(register.number())),
+            Fault::NoPlace(table) => says(6, Layer::Table, u64::from(table.number())),
+            Fault::MonthFull(quarter) => says(7, Layer::Book, u64::from(quarter.0)),
+            Fault::MonthUnfinished(quarter) => says(8, Layer::Book, u64::from(quarter.0)),
             Fault::NotRead(code) => says(9, Layer::Book, code.0),
-            Fault::FractionAbsent(class, direction, quarter) => Notice {
+            Fault::FractionAbsent(question) => Notice {
                 number: 10,
                 layer: Layer::Source,
-                first: class as u64,
-                second: direction as u64,
-                third: quarter.0 as u64,
+                first: u64::from(question.class),
+                second: u64::from(question.direction),
+                third: u64::from(question.quarter.0),
             },
             Fault::ForeignTables => says(11, Layer::Book, 0),
-            Fault::LimitPassed(limit) => says(12, Layer::Book, limit.number() as u64),
-            Fault::NothingToShare(quarter) => says(13, Layer::Book, quarter.0 as u64),
+            Fault::LimitPassed(limit) => says(12, Layer::Book, u64::from(limit.number())),
+            Fault::NothingToShare(quarter) => says(13, Layer::Book, u64::from(quarter.0)),
             Fault::PageTooShort(length) => says(14, Layer::Book, length.0),
             Fault::NotAdmitted(place) => says(15, Layer::Stream, place.0),
             Fault::UnknownKind(place) => says(16, Layer::Stream, place.0),

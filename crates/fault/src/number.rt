@@ -1,17 +1,30 @@
-// The numbers of directions, periods, registers, tables and limits.
+// The numbers of directions, periods, registers, tables and limits. `number` is their conversion by the name that callers and contracts have for it.
 ghost use Rattle.std.specs.Prelude.{◌≡◌};
 ghost use Rattle.fault.specs.Values.{direction_number, limit_number, period_number, register_number, table_number};
 
 use crate::cause::{Direction, Limit, Period, Register, TableKind};
 
+impl From<Direction> for u8 {
+    ghost from_gives = { λ direction number. number ≡ direction_number direction };
+
+    fn from(direction: Direction) -> u8 {
+        direction as u8
+    }
+}
+
 impl Direction {
     pub fn number(self) -> u8
         ensures { result ≡ direction_number self }
     {
-        match self {
-            Direction::Offtake => 0,
-            Direction::FeedIn => 1,
-        }
+        u8::from(self)
+    }
+}
+
+impl From<Period> for u8 {
+    ghost from_gives = { λ period number. number ≡ period_number period };
+
+    fn from(period: Period) -> u8 {
+        period as u8
     }
 }
 
@@ -19,10 +32,15 @@ impl Period {
     pub fn number(self) -> u8
         ensures { result ≡ period_number self }
     {
-        match self {
-            Period::Normal => 0,
-            Period::Low => 1,
-        }
+        u8::from(self)
+    }
+}
+
+impl From<Register> for u8 {
+    ghost from_gives = { λ register number. number ≡ register_number register };
+
+    fn from(register: Register) -> u8 {
+        2 * register.direction.number() + register.period.number()
     }
 }
 
@@ -30,12 +48,15 @@ impl Register {
     pub fn number(self) -> u8
         ensures { result ≡ register_number self }
     {
-        match (self.direction, self.period) {
-            (Direction::Offtake, Period::Normal) => 0,
-            (Direction::Offtake, Period::Low) => 1,
-            (Direction::FeedIn, Period::Normal) => 2,
-            (Direction::FeedIn, Period::Low) => 3,
-        }
+        u8::from(self)
+    }
+}
+
+impl From<TableKind> for u8 {
+    ghost from_gives = { λ table number. number ≡ table_number table };
+
+    fn from(table: TableKind) -> u8 {
+        table as u8
     }
 }
 
@@ -43,10 +64,15 @@ impl TableKind {
     pub fn number(self) -> u8
         ensures { result ≡ table_number self }
     {
-        match self {
-            TableKind::Connections => 1,
-            TableKind::Groups => 2,
-        }
+        u8::from(self)
+    }
+}
+
+impl From<Limit> for u8 {
+    ghost from_gives = { λ limit number. number ≡ limit_number limit };
+
+    fn from(limit: Limit) -> u8 {
+        limit as u8
     }
 }
 
@@ -54,13 +80,6 @@ impl Limit {
     pub fn number(self) -> u8
         ensures { result ≡ limit_number self }
     {
-        match self {
-            Limit::Weights => 1,
-            Limit::Residual => 2,
-            Limit::Postings => 3,
-            Limit::StandingSum => 4,
-            Limit::Advances => 5,
-            Limit::Volume => 6,
-        }
+        u8::from(self)
     }
 }

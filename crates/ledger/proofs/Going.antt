@@ -1,29 +1,25 @@
 -- Each entry is an event: what the model makes of state and tables is what the history with it leads to. Assumes nothing.
-use Rattle.std.proofs.Common.{◌≡◌, ℕ, ◌+◌, ◌<◌, Bool, true, false, cond, not, eqb, List, [], ◌∷◌, map, ℤ, pos, ◌+ℤ◌, ◌*ℤ◌, nat_abs, None, sym, refl, ap, ◌∙◌, subst, arith}
-use Rattle.fault.specs.declared.cause.Fault.{Fault}
-use Rattle.allocation.specs.Correction.{corrected}
+use Rattle.std.proofs.Common.{◌≡◌, ℕ, ◌+◌, ◌<◌, cond, not, eqb, List, [], ◌∷◌, map, ℤ, pos, ◌+ℤ◌, nat_abs, None, sym, refl, ap, ◌∙◌, arith}
 use Rattle.rows.specs.declared.connection.ConnectionRow.{ConnectionRow}
 use Rattle.rows.specs.declared.group.Group.{Group}
 use Rattle.rows.specs.declared.group.GroupRow.{GroupRow}
 use Rattle.rows.specs.Dividing.{both_held, volume_of}
 use Rattle.rows.specs.Dividing.{got_in as rows_got, priced as rows_priced}
-use Rattle.rows.specs.Registers.{way}
 use Rattle.tables.specs.BookRows.{group_rules}
 use Rattle.ledger.specs.Checks.{first}
-use Rattle.ledger.specs.Events.{Move, History, Phase, enrols, reads, switches, leaves, divides, moved, turned, move_refused, phase}
-use Rattle.ledger.specs.Events.{between as Between, gathering as Gathering, slip as Slip, settled as Settled}
+use Rattle.ledger.specs.Events.{History, Phase, reads, divides, moved, turned, phase}
+use Rattle.ledger.specs.Events.{between as Between, gathering as Gathering, slip as Slip}
 use Rattle.ledger.specs.Histories.{Start, Admitted, sums_at, month_at, opened_at, weighed_at, state_in, state_at, connections, groups, move_checks}
 use Rattle.ledger.specs.Keys.{Ordered, net}
 use Rattle.ledger.specs.Laws.{Reaches}
 use Rattle.ledger.specs.Model.{connection_at, read_month, gained, divide_month}
-use Rattle.ledger.specs.Postings.{each_kind}
-use Rattle.ledger.specs.Quantities.{done, period_now, price_now, posted, posted_in, volume_sum, value_sum, advanced, known, weight, weights, residual, wrote, gets, profiled_in, posted_to}
+use Rattle.ledger.specs.Quantities.{done, advanced, known, weight, weights, residual, wrote, gets, profiled_in}
 use Rattle.ledger.specs.Quantities.{priced as priced_now}
-use Rattle.ledger.specs.States.{Month, Opened, Weighed, between, gathering, slip}
+use Rattle.ledger.specs.States.{State, Month, Opened, Weighed, between, gathering, slip}
 use Rattle.ledger.specs.Steps.{Steps, BetweenSteps, GatheringSteps, SlipSteps}
 use Rattle.ledger.proofs.Basics.{group_order}
-use Rattle.ledger.proofs.Bare.{holds}
-use Rattle.ledger.proofs.Keyed.{net_listed, net_same, ahead_other}
+use Rattle.ledger.proofs.Bare.{holds, gets_later}
+use Rattle.ledger.proofs.Keyed.{net_listed, net_same}
 use Rattle.ledger.proofs.Members.{members, at_enrolled, listed_read}
 use Rattle.ledger.proofs.Rows.{ledger_row}
 use Rattle.ledger.proofs.Slips.{weighing_is}
@@ -35,66 +31,52 @@ in_between s h m e = at (phase h) refl e
   where
     at : (p : Phase) → phase h ≡ p → between m ≡ state_in p (month_at s h) (opened_at h) (weighed_at h) → (phase h ≡ Between) × (m ≡ month_at s h)
     at Between was e = (was, cc)
-    at Gathering was e = absurd (let z : ◌≡◌ {A = ℕ} 0 1 = cc in omega arith)
-    at Slip was e = absurd (let z : ◌≡◌ {A = ℕ} 0 1 = cc in omega arith)
-    at Settled was e = absurd (let z : ◌≡◌ {A = ℕ} 0 1 = cc in omega arith)
+    at _ was e = absurd cc
 
 in_gathering : (s : Start) (h : History) (m : Month) (o : Opened) → gathering m o ≡ state_at s h → (phase h ≡ Gathering) × (m ≡ month_at s h) × (o ≡ opened_at h)
 in_gathering s h m o e = at (phase h) refl e
   where
     at : (p : Phase) → phase h ≡ p → gathering m o ≡ state_in p (month_at s h) (opened_at h) (weighed_at h) → (phase h ≡ Gathering) × (m ≡ month_at s h) × (o ≡ opened_at h)
-    at Between was e = absurd (let z : ◌≡◌ {A = ℕ} 0 1 = cc in omega arith)
     at Gathering was e = (was, cc, cc)
-    at Slip was e = absurd (let z : ◌≡◌ {A = ℕ} 0 1 = cc in omega arith)
-    at Settled was e = absurd (let z : ◌≡◌ {A = ℕ} 0 1 = cc in omega arith)
+    at _ was e = absurd cc
 
 in_slip : (s : Start) (h : History) (m : Month) (o : Opened) (w : Weighed) → slip m o w ≡ state_at s h → (phase h ≡ Slip) × (m ≡ month_at s h) × (o ≡ opened_at h) × (w ≡ weighed_at h)
 in_slip s h m o w e = at (phase h) refl e
   where
     at : (p : Phase) → phase h ≡ p → slip m o w ≡ state_in p (month_at s h) (opened_at h) (weighed_at h) → (phase h ≡ Slip) × (m ≡ month_at s h) × (o ≡ opened_at h) × (w ≡ weighed_at h)
-    at Between was e = absurd (let z : ◌≡◌ {A = ℕ} 0 1 = cc in omega arith)
-    at Gathering was e = absurd (let z : ◌≡◌ {A = ℕ} 0 1 = cc in omega arith)
     at Slip was e = (was, cc, cc, cc)
-    at Settled was e = absurd (let z : ◌≡◌ {A = ℕ} 0 1 = cc in omega arith)
+    at _ was e = absurd cc
 
--- what holds of the history's state and tables holds of those that it leads to
-module _ (P : Month → List ConnectionRow → List GroupRow → Type 0) where
-  here : (m m' : Month) (cs cs' : List ConnectionRow) (gs gs' : List GroupRow) → m ≡ m' → cs ≡ cs' → gs ≡ gs' → P m' cs' gs' → P m cs gs
-  here m m' cs cs' gs gs' a b c p = subst (λ (x : Month). P x cs gs) (sym a) (subst (λ (x : List ConnectionRow). P m' x gs) (sym b) (subst (λ (x : List GroupRow). P m' cs' x) (sym c) p))
-
--- a move that was accepted, or refused, leaves the state between quarters
-moved_state : (s : Start) (h : History) (e : Move) → phase h ≡ Between → between (month_at s (moved e ∷ h)) ≡ state_at s (moved e ∷ h)
-moved_state s h e p = ap (λ x. state_in x (month_at s (moved e ∷ h)) (opened_at (moved e ∷ h)) (weighed_at (moved e ∷ h))) (sym p)
-
-refused_state : (s : Start) (h : History) (e : Move) (f : Fault) → phase h ≡ Between → between (month_at s h) ≡ state_at s (move_refused e f ∷ h)
-refused_state s h e f p = ap (λ x. state_in x (month_at s h) (opened_at h) (weighed_at h)) (sym p)
+-- the state and the tables of a history are reached
+reached : (s : Start) (h : History) (x : State) → Admitted s h → x ≡ state_at s h → Reaches s h x (connections h) (groups h)
+reached s h x a e = record { admitted = a; state_is = e; connections_are = refl; groups_are = refl }
 
 read_month_is : (s : Start) (h : History) (c : ℕ) (st : List ℕ) → Admitted s h → first (move_checks s h (reads c st)) ≡ None → read_month (connection_at (connections h) c) st (month_at s h) ≡ month_at s (moved (reads c st) ∷ h)
 read_month_is s h c st a none = let m = members s h a in ap (λ conn. read_month conn st (month_at s h)) (at_enrolled h c m (listed_read s h c st m none))
 
 between_steps : (s : Start) (h : History) → Admitted s h → phase h ≡ Between → BetweenSteps s h (month_at s h) (connections h) (groups h)
 between_steps s h a p = record {
-  enrol = λ x none. record { admitted = (a, p, none); state_is = moved_state s h (enrols x) p; connections_are = refl; groups_are = refl };
-  enrol_refused = λ x f some. record { admitted = (a, p, some); state_is = refused_state s h (enrols x) f p; connections_are = refl; groups_are = refl };
-  read = λ c st none. record { admitted = (a, p, none); state_is = ap between (read_month_is s h c st a none) ∙ moved_state s h (reads c st) p; connections_are = refl; groups_are = refl };
-  read_refused = λ c st f some. record { admitted = (a, p, some); state_is = refused_state s h (reads c st) f p; connections_are = refl; groups_are = refl };
-  switch = λ c b t none. record { admitted = (a, p, none); state_is = moved_state s h (switches c b t) p; connections_are = refl; groups_are = refl };
-  switch_refused = λ c b t f some. record { admitted = (a, p, some); state_is = refused_state s h (switches c b t) f p; connections_are = refl; groups_are = refl };
-  leave = λ c none. record { admitted = (a, p, none); state_is = moved_state s h (leaves c) p; connections_are = refl; groups_are = refl };
-  leave_refused = λ c f some. record { admitted = (a, p, some); state_is = refused_state s h (leaves c) f p; connections_are = refl; groups_are = refl };
-  open_quarter = λ t c none. record { admitted = (a, p, none); state_is = refl; connections_are = refl; groups_are = refl };
-  open_refused = λ t c f some. record { admitted = (a, p, some); state_is = ap (λ x. state_in x (month_at s h) (opened_at h) (weighed_at h)) (sym p); connections_are = refl; groups_are = refl };
-  settle = λ none. record { admitted = (a, p, none); state_is = refl; connections_are = refl; groups_are = refl };
-  settle_refused = λ f some. record { admitted = (a, p, some); state_is = ap (λ x. state_in x (month_at s h) (opened_at h) (weighed_at h)) (sym p); connections_are = refl; groups_are = refl };
+  enrol = λ x none. reached s _ _ (a, p, none) (rw p);
+  enrol_refused = λ x f some. reached s _ _ (a, p, some) (rw p);
+  read = λ c st none. reached s _ _ (a, p, none) (ap between (read_month_is s h c st a none) ∙ rw p);
+  read_refused = λ c st f some. reached s _ _ (a, p, some) (rw p);
+  switch = λ c b t none. reached s _ _ (a, p, none) (rw p);
+  switch_refused = λ c b t f some. reached s _ _ (a, p, some) (rw p);
+  leave = λ c none. reached s _ _ (a, p, none) (rw p);
+  leave_refused = λ c f some. reached s _ _ (a, p, some) (rw p);
+  open_quarter = λ t c none. reached s _ _ (a, p, none) refl;
+  open_refused = λ t c f some. reached s _ _ (a, p, some) (rw p);
+  settle = λ none. reached s _ _ (a, p, none) refl;
+  settle_refused = λ f some. reached s _ _ (a, p, some) (rw p);
 }
 
 gathering_steps : (s : Start) (h : History) → Admitted s h → phase h ≡ Gathering → GatheringSteps s h (month_at s h) (connections h) (groups h) (opened_at h)
 gathering_steps s h a p = record {
-  post = λ k b t w none. record { admitted = (a, p, none); state_is = refl; connections_are = refl; groups_are = refl };
-  post_refused = λ k b t w f some. record { admitted = (a, p, some); state_is = ap (λ x. state_in x (month_at s h) (opened_at h) (weighed_at h)) (sym p); connections_are = refl; groups_are = refl };
-  weigh = λ meaning none. record { admitted = (a, p, none); state_is = ap (slip (month_at s h) (opened_at h)) (weighing_is s h meaning a); connections_are = refl; groups_are = refl };
-  weigh_refused = λ meaning f some. record { admitted = (a, p, some); state_is = ap (λ x. state_in x (month_at s h) (opened_at h) (weighed_at h)) (sym p); connections_are = refl; groups_are = refl };
-  withdraw = record { admitted = (a, p, refl); state_is = refl; connections_are = refl; groups_are = refl };
+  post = λ k b t w none. reached s _ _ (a, p, none) refl;
+  post_refused = λ k b t w f some. reached s _ _ (a, p, some) (rw p);
+  weigh = λ meaning none. reached s _ _ (a, p, none) (ap (slip (month_at s h) (opened_at h)) (weighing_is s h meaning a));
+  weigh_refused = λ meaning f some. reached s _ _ (a, p, some) (rw p);
+  withdraw = reached s _ _ (a, p, refl) refl;
 }
 
 -- D by the rows is the history's
@@ -105,18 +87,11 @@ rows_get t r row w q ok d l (k ∷ ks) o before =
     let ih = rows_get t r row w q ok d l ks o.1 (before + both_held (row k)) in
     let rest : net (λ g. cond (eqb g.class 0) (pos 0) (gets t r w (before + both_held (row k)) ks g d)) ks ≡ net (λ g. cond (eqb g.class 0) (pos 0) (gets t r w before (k ∷ ks) g d)) ks =
     net_listed group_rules group_order (λ g. cond (eqb g.class 0) (pos 0) (gets t r w before (k ∷ ks) g d)) (λ g. cond (eqb g.class 0) (pos 0) (gets t r w (before + both_held (row k)) ks g d)) ks
-    (λ g u. ap (λ n. cond (eqb g.class 0) (pos 0) (gets t r w (before + n) ks g d)) both ∙ ap (λ b. cond (eqb g.class 0) (pos 0) (cond b (corrected t r (before + cond (eqb d 0) 0 (w k 0)) (way d) (w k d)) (gets t r w (before + (w k 0 + w k 1)) ks g d))) (sym (ahead_other group_rules group_order k g ks o.0 u))) in
+    (λ g u. ap (λ n. cond (eqb g.class 0) (pos 0) (gets t r w (before + n) ks g d)) both ∙ ap (cond (eqb g.class 0) (pos 0)) (sym (gets_later t r w before k g ks d o.0 u))) in
     λ i. first i +ℤ (ih ∙ rest) i
   where
     first : cond (not (eqb (row k).group.class 0)) (volume_of t r before (row k) d) (pos 0) ≡ cond (eqb k.class 0) (pos 0) (gets t r w before (k ∷ ks) k d)
-    first =
-        ap (λ g. cond (not (eqb g.class 0)) (volume_of t r before (row k) d) (pos 0)) (ok.named k)
-        ∙ ap (λ v. cond (not (eqb k.class 0)) v (pos 0)) (first_gets t r row w q ok before k ks d l)
-        ∙ turned_round (eqb k.class 0) (q k d) (gets t r w before (k ∷ ks) k d)
-      where
-        turned_round : (b : Bool) (x y : ℤ) → cond (not b) (cond b x y) (pos 0) ≡ cond b (pos 0) y
-        turned_round true x y = refl
-        turned_round false x y = refl
+    first = grind (arith, ok.named k, first_gets t r row w q ok before k ks d l)
 
 priced_is : (s : Start) (h : History) → Admitted s h → phase h ≡ Slip → rows_priced (weights h) (residual h) (groups h) ≡ priced_now h
 priced_is s h a out =
@@ -124,11 +99,7 @@ priced_is s h a out =
     ∙ (λ i. nat_abs (got 0 (omega arith) i) + nat_abs (got 1 (omega arith) i))
   where
     plain : (d : ℕ) (g : Group) → cond (eqb g.class 0) (pos 0) (wrote h g d) ≡ cond (eqb g.class 0) (pos 0) (gets (weights h) (residual h) (weight h) 0 (known h) g d)
-    plain d g = inside (eqb g.class 0) (posted_to h g d) (gets (weights h) (residual h) (weight h) 0 (known h) g d)
-      where
-        inside : (b : Bool) (x y : ℤ) → cond b (pos 0) (cond b x y) ≡ cond b (pos 0) y
-        inside true x y = refl
-        inside false x y = refl
+    plain d g = grind arith
 
     got : (d : ℕ) → d < 2 → rows_got (weights h) (residual h) d 0 (map (ledger_row h) (known h)) ≡ profiled_in h d
     got d l =
@@ -136,12 +107,7 @@ priced_is s h a out =
         ∙ sym (net_same (λ g. cond (eqb g.class 0) (pos 0) (gets (weights h) (residual h) (weight h) 0 (known h) g d)) (λ g. cond (eqb g.class 0) (pos 0) (wrote h g d)) (plain d) (known h))
 
 gained_is : (h : History) (p : ℕ) → gained p (opened_at h) (priced_now h) (sums_at h p) ≡ sums_at (turned divides ∷ h) p
-gained_is h p = at (eqb (period_now h) p)
-  where
-    at : (b : Bool) → cond b (record { posted = each_kind (λ k. posted_in h p k + posted h k); volume = volume_sum h p + priced_now h; value = value_sum h p +ℤ (pos (priced_now h) *ℤ price_now h) }) (sums_at h p)
-        ≡ record { posted = each_kind (λ k. cond b (posted_in h p k + posted h k) (posted_in h p k)); volume = cond b (volume_sum h p + priced_now h) (volume_sum h p); value = cond b (value_sum h p +ℤ (pos (priced_now h) *ℤ price_now h)) (value_sum h p) }
-    at true = refl
-    at false = refl
+gained_is h p = grind arith
 
 divide_month_is : (s : Start) (h : History) → Admitted s h → phase h ≡ Slip → divide_month (opened_at h) (weighed_at h) (groups h) (month_at s h) ≡ month_at s (turned divides ∷ h)
 divide_month_is s h a out =
@@ -152,32 +118,23 @@ divide_month_is s h a out =
 
 slip_steps : (s : Start) (h : History) → Admitted s h → phase h ≡ Slip → SlipSteps s h (month_at s h) (connections h) (groups h) (opened_at h) (weighed_at h)
 slip_steps s h a p = record {
-  put_back = record { admitted = (a, p, refl); state_is = refl; connections_are = refl; groups_are = refl };
-  divide = λ none. record { admitted = (a, p, none); state_is = ap between (divide_month_is s h a p); connections_are = refl; groups_are = refl };
-  divide_refused = λ f some. record { admitted = (a, p, some); state_is = ap (λ x. state_in x (month_at s h) (opened_at h) (weighed_at h)) (sym p); connections_are = refl; groups_are = refl };
+  put_back = reached s _ _ (a, p, refl) refl;
+  divide = λ none. reached s _ _ (a, p, none) (ap between (divide_month_is s h a p));
+  divide_refused = λ f some. reached s _ _ (a, p, some) (rw p);
 }
 
 from_between : (s : Start) (h : History) (m : Month) (cs : List ConnectionRow) (gs : List GroupRow) → Reaches s h (between m) cs gs → BetweenSteps s h m cs gs
-from_between s h m cs gs r =
-    let p = in_between s h m r.state_is in
-    here (λ m cs gs. BetweenSteps s h m cs gs) m (month_at s h) cs (connections h) gs (groups h) p.1 r.connections_are r.groups_are (between_steps s h r.admitted p.0)
+from_between s h m cs gs r = let p = in_between s h m r.state_is in rw (p.1, r.connections_are, r.groups_are) (between_steps s h r.admitted p.0)
 
 from_gathering : (s : Start) (h : History) (m : Month) (o : Opened) (cs : List ConnectionRow) (gs : List GroupRow) → Reaches s h (gathering m o) cs gs → GatheringSteps s h m cs gs o
-from_gathering s h m o cs gs r =
-    let p = in_gathering s h m o r.state_is in
-    here (λ m cs gs. GatheringSteps s h m cs gs o) m (month_at s h) cs (connections h) gs (groups h) p.1 r.connections_are r.groups_are
-    (subst (λ (x : Opened). GatheringSteps s h (month_at s h) (connections h) (groups h) x) (sym p.2) (gathering_steps s h r.admitted p.0))
+from_gathering s h m o cs gs r = let p = in_gathering s h m o r.state_is in rw (p.1, p.2, r.connections_are, r.groups_are) (gathering_steps s h r.admitted p.0)
 
 from_slip : (s : Start) (h : History) (m : Month) (o : Opened) (w : Weighed) (cs : List ConnectionRow) (gs : List GroupRow) → Reaches s h (slip m o w) cs gs → SlipSteps s h m cs gs o w
-from_slip s h m o w cs gs r =
-    let p = in_slip s h m o w r.state_is in
-    here (λ m cs gs. SlipSteps s h m cs gs o w) m (month_at s h) cs (connections h) gs (groups h) p.1 r.connections_are r.groups_are
-    (subst (λ (x : Opened). SlipSteps s h (month_at s h) (connections h) (groups h) x w) (sym p.2)
-    (subst (λ (x : Weighed). SlipSteps s h (month_at s h) (connections h) (groups h) (opened_at h) x) (sym p.3) (slip_steps s h r.admitted p.0)))
+from_slip s h m o w cs gs r = let p = in_slip s h m o w r.state_is in rw (p.1, p.2, p.3, r.connections_are, r.groups_are) (slip_steps s h r.admitted p.0)
 
 pub steps : Steps
 steps = record {
-  begin = λ s none. record { admitted = none; state_is = refl; connections_are = refl; groups_are = refl };
+  begin = λ s none. reached s [] _ none refl;
   from_between = from_between;
   from_gathering = from_gathering;
   from_slip = from_slip;

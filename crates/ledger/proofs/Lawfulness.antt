@@ -1,6 +1,6 @@
 -- Every history keeps all laws. Assumes nothing.
-use Rattle.std.proofs.Common.{◌≡◌, ℕ, ◌/◌, ◌<◌, Bool, true, false, cond, eqb, List, [], ◌∷◌, map, get_or, ℤ, pos, ◌+ℤ◌, Some, sym, refl, ap, ◌∙◌, subst, arith}
-use Rattle.std.proofs.lemmas.Bool.Decides.{nat_tests}
+use Rattle.std.proofs.Common.{◌≡◌, ℕ, ◌/◌, ◌<◌, cond, List, [], ◌∷◌, map, get_or, ℤ, pos, ◌+ℤ◌, Some, sym, refl, ap, ◌∙◌, subst, arith}
+use Rattle.std.proofs.lemmas.Bool.{eq-eqb, true_from_ne_false}
 use Rattle.allocation.specs.Correction.{exact, Near}
 use Rattle.rows.specs.declared.connection.ConnectionRow.{ConnectionRow}
 use Rattle.rows.specs.declared.group.Group.{Group}
@@ -8,17 +8,17 @@ use Rattle.rows.specs.declared.group.GroupRow.{GroupRow}
 use Rattle.rows.specs.Registers.{register, way}
 use Rattle.rows.specs.Settling.{month_in, real_in}
 use Rattle.tables.specs.BookRows.{group_rules}
-use Rattle.ledger.specs.Events.{History, enrols, reads, switches, leaves, opens, posts, weighs, puts_back, divides, withdraws, settles, moved, turned, move_refused, turn_refused}
+use Rattle.ledger.specs.Events.{History, enrols, divides, moved, turned}
 use Rattle.ledger.specs.Histories.{Start, Admitted, connections, groups}
 use Rattle.ledger.specs.Keys.{listed, net}
 use Rattle.ledger.specs.Laws.{Shares, Latest, Counts, Answered, Lawful, Reaches, written_in}
 use Rattle.ledger.specs.Quantities.{done, period_now, known, standing_sum, weight, weights, residual, wrote, posted_to, allocated, exchange_in, losses_in, gets}
 use Rattle.ledger.specs.States.{State}
-use Rattle.ledger.proofs.Basics.{four_read, two_read}
+use Rattle.ledger.proofs.Basics.{two_read, either_way}
 use Rattle.ledger.proofs.Bare.{period_small}
 use Rattle.ledger.proofs.Closing.{closing, allocated_at, divide_adds}
-use Rattle.ledger.proofs.Members.{members, either_way}
-use Rattle.ledger.proofs.Own.{group_is, own_tables}
+use Rattle.ledger.proofs.Members.{members}
+use Rattle.ledger.proofs.Own.{group_is, standing_is, own_tables}
 use Rattle.ledger.proofs.PageProof.{page_law}
 use Rattle.ledger.proofs.Rows.{ledger_row}
 use Rattle.ledger.proofs.Settle.{month_row, real_row, settles_law}
@@ -40,44 +40,23 @@ shares s h a = record {
       (λ u. absurd (some (standing_bare h g _ (members s h a.0) u)));
   exactly = λ g d l. wrote_row s h a g d l;
   near = λ g d z l. subst (λ (v : ℤ). Near (weights h) v (exact (weights h) (residual h) (way d) (weight h g d))) (sym (wrote_row s h a g d l)) (wrote_near s h a.0 g d l z);
-  measured = λ g d z l. wrote_row s h a g d l ∙ class_zero g d (eqb g.class 0) refl z;
+  measured = λ g d z l. wrote_row s h a g d l ∙ rw (true_from_ne_false _ z);
   adds = λ g d l.
       let k = period_small s h a.0 in
       divide_adds h g d (period_now h) l k
-      ∙ ap (λ b. cond b (allocated h g (register d (period_now h)) +ℤ wrote h g d) (allocated h g (register d (period_now h)))) (itself (period_now h))
-      ∙ ap (λ v. allocated h g (register d (period_now h)) +ℤ v) (sym (wrote_row s h a g d l));
+      ∙ rw (eq-eqb (period_now h) (period_now h) refl) (ap (λ v. allocated h g (register d (period_now h)) +ℤ v) (sym (wrote_row s h a g d l)));
   keeps = λ g r e. ap (λ b. cond b (allocated h g r +ℤ wrote h g (r / 2)) (allocated h g r)) e;
 }
-  where
-    itself : (n : ℕ) → eqb n n ≡ true
-    itself n = grind (arith, nat_tests)
-
-    class_zero : (g : Group) (d : ℕ) (b : Bool) → eqb g.class 0 ≡ b → (eqb g.class 0 ≡ false → ⊥) → wrote h g d ≡ posted_to h g d
-    class_zero g d true e z = ap (λ b. cond b (posted_to h g d) (gets (weights h) (residual h) (weight h) 0 (known h) g d)) e
-    class_zero g d false e z = absurd (z e)
 
 latest : (s : Start) (h : History) → Admitted s h → Latest h (groups h)
 latest s [] a = tt
-latest s (moved m ∷ h) a = λ g r. refl
-latest s (turned (opens p c) ∷ h) a = λ g r. refl
-latest s (turned (posts k b p w) ∷ h) a = λ g r. refl
-latest s (turned (weighs m) ∷ h) a = λ g r. refl
-latest s (turned puts_back ∷ h) a = λ g r. refl
 latest s (turned divides ∷ h) a = shares s h a
-latest s (turned withdraws ∷ h) a = λ g r. refl
-latest s (turned settles ∷ h) a = λ g r. refl
-latest s (move_refused m f ∷ h) a = λ g r. refl
-latest s (turn_refused t f ∷ h) a = λ g r. refl
+latest s (e ∷ h) a = λ g r. refl
 
 counts : (h : History) → Counts h
 counts [] = tt
 counts (moved (enrols x) ∷ h) = λ g r. refl
-counts (moved (reads c st) ∷ h) = λ g r. refl
-counts (moved (switches c b p) ∷ h) = λ g r. refl
-counts (moved (leaves c) ∷ h) = λ g r. refl
-counts (turned t ∷ h) = λ g r. refl
-counts (move_refused m f ∷ h) = λ g r. refl
-counts (turn_refused t f ∷ h) = λ g r. refl
+counts (e ∷ h) = λ g r. refl
 
 -- totals over rows are totals over groups
 row_net : (h : History) (p : ℕ) → p < 2 → (ks : List Group) → net (λ row. month_in row (register 0 p) +ℤ month_in row (register 1 p)) (map (ledger_row h) ks) ≡ net (allocated_at h p) ks
@@ -108,7 +87,7 @@ history_lawful s h a = record {
   groups_rise = (members s h a).groups_ordered;
   codes_few = codes_few s h a;
   groups_few = groups_few s h a;
-  standing = λ g r l. ap (λ row. get_or row.standing r 0) (group_is s h a g) ∙ four_read (standing_sum h g) 0 r l;
+  standing = standing_is s h a;
   readings = λ g r l. ap (λ row. real_in row r) (group_is s h a g) ∙ real_row h g r l;
   allocations = λ g r l. ap (λ row. month_in row r) (group_is s h a g) ∙ month_row h g r l;
   counts = counts h;
@@ -123,4 +102,4 @@ history_lawful s h a = record {
 
 -- whatever a history leads to obeys all laws
 pub lawful : (s : Start) (h : History) (state : State) (cs : List ConnectionRow) (gs : List GroupRow) → Reaches s h state cs gs → Lawful s h cs gs
-lawful s h state cs gs r = subst (λ (x : List ConnectionRow). Lawful s h x gs) (sym r.connections_are) (subst (λ (x : List GroupRow). Lawful s h (connections h) x) (sym r.groups_are) (history_lawful s h r.admitted))
+lawful s h state cs gs r = rw (r.connections_are, r.groups_are) (history_lawful s h r.admitted)

@@ -1,11 +1,10 @@
 -- What only foreign tables can give, own tables never give. Assumes nothing.
-use Rattle.std.proofs.Common.{◌≡◌, ℕ, zero, suc, ◌+◌, ◌/◌, ◌%◌, ◌<◌, ◌≤◌, Bool, true, false, cond, not, ◌&&◌, eqb, ltb, List, [], ◌∷◌, ◌++◌, map, get_or, ℤ, pos, ◌+ℤ◌, neg_ℤ, nat_abs, is_some, Some, None, Option, sym, refl, ap, ◌∙◌, subst, arith}
-use Rattle.std.proofs.lemmas.Int.{ints}
-use Rattle.std.proofs.lemmas.Bool.{both_ways}
-use Rattle.std.proofs.lemmas.Bool.Decides.{nat_tests}
+use Rattle.std.proofs.Common.{◌≡◌, ℕ, ◌+◌, ◌/◌, ◌%◌, ◌<◌, ◌≤◌, Bool, true, false, cond, not, ◌&&◌, eqb, ltb, List, [], ◌∷◌, ◌++◌, map, get_or, ℤ, pos, ◌+ℤ◌, nat_abs, is_some, Some, None, Option, sym, refl, ap, ◌∙◌, subst, arith, rules}
+use Rattle.std.proofs.lemmas.Bool.{both_ways, cond_both, and_right, ltb-false, le-ltb, eq-eqb}
 use Rattle.fault.specs.declared.cause.Fault.{Fault}
-use Rattle.fault.specs.declared.cause.Fault.TheVariants.{OutOfRange, BadCode, CodePresent, NotEnrolled, StandTooLarge, NoPlace, MonthFull, MonthUnfinished, NotRead, FractionAbsent, ForeignTables, LimitPassed, NothingToShare, PageTooShort, NotAdmitted, UnknownKind, CutEntry}
-use Rattle.fault.specs.declared.cause.Limit.TheVariants.{Weights, Residual, Postings, StandingSum, Advances, Volume}
+use Rattle.fault.specs.declared.cause.Fault.TheVariants.{NotEnrolled, NoPlace, ForeignTables, LimitPassed}
+use Rattle.fault.specs.declared.cause.Limit.TheVariants.{Postings, Advances, Volume}
+use Rattle.fault.specs.declared.cause.Quarter.{Quarter}
 use Rattle.fault.specs.declared.cause.TableKind.TheVariants.{Groups}
 use Rattle.allocation.specs.Scale.{most_volume}
 use Rattle.profile.specs.Meanings.{Meaning}
@@ -13,74 +12,49 @@ use Rattle.rows.specs.declared.connection.ConnectionRow.{ConnectionRow}
 use Rattle.rows.specs.declared.group.Group.{Group}
 use Rattle.rows.specs.declared.group.GroupRow.{GroupRow}
 use Rattle.rows.specs.Connections.{all_advances, row_advance, span}
-use Rattle.rows.specs.Dividing.{all_unsigned, held_total, adds_to, month_passed, too_large, divided_rows, divided_row, both_held, unsigned}
-use Rattle.rows.specs.Groups.{group_named, blank}
+use Rattle.rows.specs.Dividing.{all_unsigned, held_total, adds_to, month_passed, too_large, divided_rows, divided_row, both_held}
+use Rattle.rows.specs.Groups.{group_named, has_profile}
 use Rattle.rows.specs.Registers.{any_register, signed_in}
 use Rattle.rows.specs.Settling.{month_in, real_in, volume_passed}
 use Rattle.rows.specs.Weighing.{or_else, first_absent, row_absent, absent, row_weight}
 use Rattle.tables.specs.BookRows.{code, connection_rules, group_rules}
 use Rattle.tables.specs.Rules.{look}
 use Rattle.ledger.specs.Checks.{Check, first, when, foreign, missing, most_posted, most_advanced, of_connection, stand_checks, naming_checks, gathering_checks, full, booking_checks, reading_checks, pair_checks, moving_checks, leaving_checks, first_unread, volume_checks, memory_checks}
-use Rattle.ledger.specs.Events.{Move, Turn, Event, History, enrols, reads, switches, leaves, opens, posts, weighs, puts_back, divides, withdraws, settles, moved, turned, move_refused, turn_refused, wants, phase, between, slip, settled}
+use Rattle.ledger.specs.Events.{Move, Turn, History, Phase, enrols, reads, switches, leaves, opens, posts, weighs, puts_back, divides, withdraws, settles, turned, wants, phase, slip}
 use Rattle.ledger.specs.Histories.{Start, Admitted, connections, groups, month_at, opened_at, move_checks, turn_checks}
 use Rattle.ledger.specs.Keys.{listed, total}
 use Rattle.ledger.specs.Laws.{NotForeign, Own}
 use Rattle.ledger.specs.Model.{quarter, group_at}
 use Rattle.ledger.specs.Postings.{gross, measured, kind_direction, measured_volume}
 use Rattle.ledger.specs.Quantities.{done, period_now, posted, posted_to, connection, codes, known, group_of, standing_sum, weight, weights, residual, wrote, allocated, counted, real, advanced, advance_of}
-use Rattle.ledger.proofs.Basics.{group_order, four_read, two_read, all_registers}
+use Rattle.ledger.proofs.Basics.{sign_size, sum_size, group_order, four_read, two_read, all_registers, either_way}
 use Rattle.ledger.proofs.Keyed.{look_made}
-use Rattle.ledger.proofs.Members.{members, either_way, row_at, looked}
+use Rattle.ledger.proofs.Members.{members, cond_const, row_at, looked}
 use Rattle.ledger.proofs.Standing.{standing_own}
 use Rattle.ledger.proofs.Bare.{holds, holds_posted, holds_weights}
-use Rattle.ledger.proofs.Bounds.{quarters_small, done_within, done_small, gross_within, posted_within, wrote_small, divide_size, allocated_within, advanced_within, counted_within, signed_size, one_of_four, most_booked, half_small}
+use Rattle.ledger.proofs.Bounds.{busy, quarters_small, done_within, done_small, posted_size, wrote_small, divide_size, allocated_within, advanced_within, counted_within, signed_size, one_of_four}
 use Rattle.ledger.proofs.Rows.{ledger_row, row_bare}
 use Rattle.ledger.proofs.Settle.{month_row, real_row, totals_small}
 use Rattle.ledger.proofs.Turns.{Weighted, weighted, shown, rows_divide}
 
 -- faults that own tables give too
 abbrev tame_fault : Fault → Bool
-tame_fault (OutOfRange p) = true
-tame_fault (BadCode c) = true
-tame_fault (CodePresent c) = true
-tame_fault (NotEnrolled c) = true
-tame_fault (StandTooLarge r) = true
-tame_fault (NoPlace t) = true
-tame_fault (MonthFull q) = true
-tame_fault (MonthUnfinished q) = true
-tame_fault (NotRead c) = true
-tame_fault (FractionAbsent c d q) = true
 tame_fault ForeignTables = false
-tame_fault (LimitPassed Weights) = true
-tame_fault (LimitPassed Residual) = true
-tame_fault (LimitPassed Postings) = true
-tame_fault (LimitPassed StandingSum) = true
-tame_fault (LimitPassed Advances) = true
 tame_fault (LimitPassed Volume) = false
-tame_fault (NothingToShare q) = true
-tame_fault (PageTooShort l) = true
-tame_fault (NotAdmitted b) = true
-tame_fault (UnknownKind b) = true
-tame_fault (CutEntry b) = true
+tame_fault f = true
 
 abbrev Tame : Check → Type 0
 Tame None = Unit {0}
 Tame (Some f) = tame_fault f ≡ true
 
 domestic : (c : Check) → Tame c → NotForeign c
-domestic None t = record { not_foreign = λ e. let z : ◌≡◌ {A = ℕ} 0 1 = cc in omega arith; not_large = λ e. let z : ◌≡◌ {A = ℕ} 0 1 = cc in omega arith }
-domestic (Some f) t = record {
-  not_foreign = λ e. let is : f ≡ ForeignTables = cc in both_ways _ refl (sym (ap tame_fault is) ∙ t);
-  not_large = λ e. let is : f ≡ LimitPassed Volume = cc in both_ways _ refl (sym (ap tame_fault is) ∙ t);
-}
+domestic c t = record { not_foreign = λ e. both_ways _ refl (subst Tame e t); not_large = λ e. both_ways _ refl (subst Tame e t) }
 
 tame_when : (b : Bool) (f : Fault) → tame_fault f ≡ true → Tame (when b f)
-tame_when true f e = e
-tame_when false f e = tt
+tame_when b f e = cond_both b _ _ Tame (λ _. e) (λ _. tt)
 
 tame_quiet : (b : Bool) (f : Fault) → b ≡ false → Tame (when b f)
-tame_quiet true f e = absurd (both_ways true e refl)
-tame_quiet false f e = tt
+tame_quiet b f e = rw e tt
 
 tame_or : (c d : Check) → Tame c → Tame d → Tame (or_else c d)
 tame_or None d x y = y
@@ -99,9 +73,6 @@ tame_after : (b c : Bool) (f g : Fault) (cs : List Check) → tame_fault f ≡ t
 tame_after true c f g cs e next t = e
 tame_after false c f g cs e next t = tame_or (when c g) (first cs) (tame_quiet c g (next refl)) (tame_first cs t)
 
-tame_skip : (c : Check) (cs : List Check) → Tame c → Tame (first cs) → Tame (first (c ∷ cs))
-tame_skip c cs x y = tame_or c (first cs) x y
-
 -- the row of a group, made or blank
 pub group_look : (s : Start) (h : History) → Admitted s h → (g : Group) → look group_rules (groups h) g ≡ cond (listed group_rules g (known h)) (Some (ledger_row h g)) None
 group_look s h a g = ap (λ rows. look group_rules rows g) (shown s h a) ∙ look_made group_rules group_order (ledger_row h) (λ k. refl) g (known h)
@@ -113,11 +84,12 @@ group_is s h a g =
     (λ t. rw (e, t))
     (λ u. rw (e, u) (sym (row_bare s h a g u)))
 
-not_below : (m n : ℕ) → n ≤ m → ltb m n ≡ false
-not_below m n l = grind (arith, nat_tests)
-
 small_volume : (z : ℤ) → nat_abs z ≤ most_volume → too_large z ≡ false
-small_volume z l = not_below most_volume (nat_abs z) l
+small_volume z l = le-ltb most_volume (nat_abs z) l
+
+-- what a row says of the standing sums
+pub standing_is : (s : Start) (h : History) → Admitted s h → (g : Group) (r : ℕ) → r < 4 → get_or (group_at (groups h) g).standing r 0 ≡ standing_sum h g r
+standing_is s h a g r l = ap (λ row. get_or row.standing r 0) (group_is s h a g) ∙ four_read (standing_sum h g) 0 r l
 
 -- the group of an enrolled connection has its row, with sums no less than its own
 own_connection : (s : Start) (h : History) (c : ℕ) → Admitted s h → listed connection_rules c (codes h) ≡ true → foreign (groups h) (row_at h c) ≡ false
@@ -125,23 +97,20 @@ own_connection s h c a l =
     let g = group_of h c in
     let here = (members s h a).in_known c l in
     let there : missing (groups h) g ≡ false = ap (λ o. not (is_some o)) (group_look s h a g ∙ ap (λ b. cond b (Some (ledger_row h g)) None) here) in
-    ap (λ b. cond b true (any_register (λ r. ltb (get_or (group_at (groups h) g).standing r 0) (get_or (connection h c).volumes r 0)))) there
-    ∙ all_registers (λ r. ltb (get_or (group_at (groups h) g).standing r 0) (get_or (connection h c).volumes r 0))
-    (λ r k. not_below _ _ (subst (λ (n : ℕ). get_or (connection h c).volumes r 0 ≤ n) (sym (ap (λ row. get_or row.standing r 0) (group_is s h a g) ∙ four_read (standing_sum h g) 0 r k)) (standing_own h c r l)))
+    rw there (all_registers (λ r. ltb (get_or (group_at (groups h) g).standing r 0) (get_or (connection h c).volumes r 0))
+    (λ r k. le-ltb _ _ (rw (standing_is s h a g r k) (standing_own h c r l))))
 
 -- the checks of a connection that is looked for
 tame_found : (s : Start) (h : History) (c : ℕ) (checks : ConnectionRow → List Check) → Admitted s h → (listed connection_rules c (codes h) ≡ true → Tame (first (checks (row_at h c)))) → Tame (first (of_connection (connections h) c checks))
 tame_found s h c checks a there =
-    let m = members s h a in
-    either_way (listed connection_rules c (codes h)) (Tame (first (of_connection (connections h) c checks)))
-    (λ t. subst (λ (o : Option ConnectionRow). Tame (first (elim o [ Some conn ↦ checks conn | None ↦ Some (NotEnrolled (code c)) ∷ [] ]))) (sym (looked h c m ∙ ap (λ b. cond b (Some (row_at h c)) None) t)) (there t))
-    (λ u. subst (λ (o : Option ConnectionRow). Tame (first (elim o [ Some conn ↦ checks conn | None ↦ Some (NotEnrolled (code c)) ∷ [] ]))) (sym (looked h c m ∙ ap (λ b. cond b (Some (row_at h c)) None) u)) refl)
+    let says = λ (o : Option ConnectionRow). Tame (first (elim o [ Some conn ↦ checks conn | None ↦ Some (NotEnrolled (code c)) ∷ [] ])) in
+    subst says (sym (looked h c (members s h a))) (cond_both (listed connection_rules c (codes h)) _ _ says there (λ _. refl))
 
 -- real volumes stay small where all advances do
 read_small : (s : Start) (h : History) (c : ℕ) (st : List ℕ) → Admitted s h → ltb most_advanced (advanced h + all_advances (row_at h c) st) ≡ false → any_register (λ r. too_large (get_or (group_at (groups h) (group_of h c)).real r (pos 0) +ℤ signed_in r (row_advance (row_at h c) st r))) ≡ false
 read_small s h c st a e =
     let g = group_of h c in
-    let l = few _ _ e in
+    let l = ltb-false _ _ e in
     all_registers (λ r. too_large (get_or (group_at (groups h) g).real r (pos 0) +ℤ signed_in r (row_advance (row_at h c) st r)))
     (λ r k.
     let is : get_or (group_at (groups h) g).real r (pos 0) ≡ counted h g r = ap (λ row. get_or row.real r (pos 0)) (group_is s h a g) ∙ four_read (counted h g) (pos 0) r k in
@@ -149,13 +118,8 @@ read_small s h c st a e =
     let y = advanced_within s h a in
     let z = signed_size r (advance_of h c st r) in
     let o = one_of_four (advance_of h c st) r k in
-    ap (λ v. too_large (v +ℤ signed_in r (advance_of h c st r))) is ∙ small_volume (counted h g r +ℤ signed_in r (advance_of h c st r)) (added (counted h g r) (signed_in r (advance_of h c st r)) _ _ x z (omega arith)))
-  where
-    few : (n m : ℕ) → ltb m n ≡ false → n ≤ m
-    few n m e = grind (arith, nat_tests)
-
-    added : (x y : ℤ) (n m : ℕ) → nat_abs x ≤ n → nat_abs y ≡ m → n + m ≤ most_volume → nat_abs (x +ℤ y) ≤ most_volume
-    added x y n m l e k = omega (arith, ints)
+    let t = sum_size (counted h g r) (signed_in r (advance_of h c st r)) in
+    ap (λ v. too_large (v +ℤ signed_in r (advance_of h c st r))) is ∙ small_volume (counted h g r +ℤ signed_in r (advance_of h c st r)) (omega arith))
 
 tame_front : (xs ys : List Check) → AllTame xs → Tame (first ys) → Tame (first (xs ++ ys))
 tame_front [] ys t y = y
@@ -164,82 +128,56 @@ tame_front (x ∷ xs) ys t y = tame_or x (first (xs ++ ys)) t.0 (tame_front xs y
 read_tame : (s : Start) (h : History) (c : ℕ) (st : List ℕ) → Admitted s h → Tame (first (move_checks s h (reads c st)))
 read_tame s h c st a =
     tame_found s h c (reading_checks (month_at s h) (groups h) st) a
-    (λ l. tame_front (stand_checks (span (connection h c).digits) st) (booking_checks (month_at s h) (groups h) st (row_at h c)) (tame_when _ _ refl, (tame_when _ _ refl, (tame_when _ _ refl, (tame_when _ _ refl, tt)))) (tame_or (when (foreign (groups h) (row_at h c)) ForeignTables) _ (tame_quiet _ _ (own_connection s h c a l)) (tame_after _ _ (LimitPassed Advances) (LimitPassed Volume) [] refl (read_small s h c st a) tt)))
+    (λ l. tame_front (stand_checks (span (connection h c).digits) st) (booking_checks (month_at s h) (groups h) st (row_at h c)) (search (rules, tame_when)) (tame_or (when (foreign (groups h) (row_at h c)) ForeignTables) _ (tame_quiet _ _ (own_connection s h c a l)) (tame_after _ _ (LimitPassed Advances) (LimitPassed Volume) [] refl (read_small s h c st a) tt)))
 
 move_tame : (s : Start) (h : History) → Admitted s h → (m : Move) → Tame (first (move_checks s h m))
-move_tame s h a (enrols x) = tame_first (move_checks s h (enrols x)) (tame_when _ _ refl, (tame_when _ _ refl, (tame_when _ _ refl, (tame_when _ _ refl, (tame_when _ _ refl, (tame_when _ _ refl, (tame_when _ _ refl, (tame_when _ _ refl, (tame_when _ _ refl, (tame_when _ _ refl, (tame_when _ _ refl, (tame_when _ _ refl, (tame_when _ _ refl, (tame_when _ _ refl, tt))))))))))))))
+move_tame s h a (enrols x) = tame_first (move_checks s h (enrols x)) (search (rules, tame_when))
 move_tame s h a (reads c st) = read_tame s h c st a
 move_tame s h a (switches c b p) =
-    tame_front (pair_checks b p) (of_connection (connections h) c (moving_checks s.rooms (month_at s h) (groups h) b p)) (tame_when _ _ refl, (tame_when _ _ refl, tt))
-    (tame_found s h c (moving_checks s.rooms (month_at s h) (groups h) b p) a (λ l. tame_first (moving_checks s.rooms (month_at s h) (groups h) b p (row_at h c)) (tame_when _ _ refl, (tame_when _ _ refl, (tame_quiet _ _ (own_connection s h c a l), (tame_when _ _ refl, tt))))))
-move_tame s h a (leaves c) = tame_found s h c (leaving_checks (month_at s h) (groups h)) a (λ l. tame_first (leaving_checks (month_at s h) (groups h) (row_at h c)) (tame_when _ _ refl, (tame_quiet _ _ (own_connection s h c a l), tt)))
+    tame_front (pair_checks b p) (of_connection (connections h) c (moving_checks s.rooms (month_at s h) (groups h) b p)) (search (rules, tame_when))
+    (tame_found s h c (moving_checks s.rooms (month_at s h) (groups h) b p) a (λ l. tame_first (moving_checks s.rooms (month_at s h) (groups h) b p (row_at h c)) (search (rules, tame_when, tame_quiet _ ForeignTables (own_connection s h c a l)))))
+move_tame s h a (leaves c) = tame_found s h c (leaving_checks (month_at s h) (groups h)) a (λ l. tame_first (leaving_checks (month_at s h) (groups h) (row_at h c)) (search (rules, tame_when, tame_quiet _ ForeignTables (own_connection s h c a l))))
 
 -- what is posted stays small where all postings do
 post_small : (s : Start) (h : History) (k b p w : ℕ) → Admitted s h → ltb most_posted (gross (posted h) + w) ≡ false → (measured k && too_large (get_or (group_at (groups h) (group_named b p 0)).quarter (kind_direction k) (pos 0) +ℤ measured_volume k w)) ≡ false
 post_small s h k b p w a e =
     let g = group_named b p 0 in
-    let l = few _ _ e in
-    let d = direction k in
+    let l = ltb-false _ _ e in
+    let d = direction in
     let is : get_or (group_at (groups h) g).quarter (kind_direction k) (pos 0) ≡ posted_to h g (kind_direction k) = ap (λ row. get_or row.quarter (kind_direction k) (pos 0)) (group_is s h a g) ∙ two_read (holds h g) (pos 0) (kind_direction k) d ∙ holds_posted h g (kind_direction k) refl in
-    let x : nat_abs (posted_to h g (kind_direction k)) ≤ gross (posted h) = part (kind_direction k) d in
-    let y = size (eqb k 3) in
-    ap (λ v. measured k && too_large (v +ℤ measured_volume k w)) is ∙ both (measured k) (small_volume (posted_to h g (kind_direction k) +ℤ measured_volume k w) (added (posted_to h g (kind_direction k)) (measured_volume k w) _ _ x y (omega arith)))
+    let x = posted_size h g (kind_direction k) d in
+    let y = sign_size (eqb k 3) w in
+    let t = sum_size (posted_to h g (kind_direction k)) (measured_volume k w) in
+    ap (λ v. measured k && too_large (v +ℤ measured_volume k w)) is ∙ and_right (measured k) _ (small_volume (posted_to h g (kind_direction k) +ℤ measured_volume k w) (omega arith))
   where
-    few : (n m : ℕ) → ltb m n ≡ false → n ≤ m
-    few n m e = grind (arith, nat_tests)
+    direction : kind_direction k < 2
+    direction = cond_both (eqb k 3) _ _ (λ d. d < 2) (λ _. omega arith) (λ _. omega arith)
 
-    direction : (k : ℕ) → kind_direction k < 2
-    direction k = either_way (eqb k 3) (kind_direction k < 2) (λ t. rw t (omega arith)) (λ f. rw f (omega arith))
-
-    part : (d : ℕ) → d < 2 → nat_abs (posted_to h (group_named b p 0) d) ≤ gross (posted h)
-    part zero l = let x = (posted_within h (group_named b p 0)).0 in omega arith
-    part (suc zero) l = let x = (posted_within h (group_named b p 0)).1 in omega arith
-    part (suc (suc d)) l = absurd (omega arith)
-
-    size : (x : Bool) → nat_abs (cond x (neg_ℤ (pos w)) (pos w)) ≡ w
-    size true = omega (arith, ints)
-    size false = refl
-
-    added : (x y : ℤ) (n m : ℕ) → nat_abs x ≤ n → nat_abs y ≡ m → n + m ≤ most_volume → nat_abs (x +ℤ y) ≤ most_volume
-    added x y n m l e k = omega (arith, ints)
-
-    both : (m : Bool) {c : Bool} → c ≡ false → (m && c) ≡ false
-    both true e = e
-    both false e = refl
-
-absent_tame : (row : GroupRow) (d : ℕ) (q : Rattle.fault.specs.declared.cause.Quarter.Quarter) (o : Option ℕ) → Tame (absent row d q o)
+absent_tame : (row : GroupRow) (d : ℕ) (q : Quarter) (o : Option ℕ) → Tame (absent row d q o)
 absent_tame row d q (Some w) = tt
 absent_tame row d q None = refl
 
-line_tame : (m : Meaning) (q : Rattle.fault.specs.declared.cause.Quarter.Quarter) (p : ℕ) (rows : List GroupRow) → Tame (first_absent m q p rows)
+line_tame : (m : Meaning) (q : Quarter) (p : ℕ) (rows : List GroupRow) → Tame (first_absent m q p rows)
 line_tame m q p [] = tt
-line_tame m q p (row ∷ rows) = tame_or (row_absent m q p row) (first_absent m q p rows) (at (Rattle.rows.specs.Groups.has_profile row)) (line_tame m q p rows)
-  where
-    at : (b : Bool) → Tame (cond b (or_else (absent row 0 q (row_weight m q p row 0)) (absent row 1 q (row_weight m q p row 1))) None)
-    at true = tame_or _ _ (absent_tame row 0 q (row_weight m q p row 0)) (absent_tame row 1 q (row_weight m q p row 1))
-    at false = tt
+line_tame m q p (row ∷ rows) =
+    tame_or (row_absent m q p row) (first_absent m q p rows)
+    (cond_both (has_profile row) _ _ Tame (λ _. tame_or _ _ (absent_tame row 0 q (row_weight m q p row 0)) (absent_tame row 1 q (row_weight m q p row 1))) (λ _. tt))
+    (line_tame m q p rows)
 
 -- while a slip is out, the rows hold weights that add up to T
 rows_unsigned : (s : Start) (h : History) → Admitted s h → phase h ≡ slip → (ks : List Group) → all_unsigned (map (ledger_row h) ks) ≡ true
 rows_unsigned s h a out [] = refl
-rows_unsigned s h a out (g ∷ gs) = ap (λ b. b && all_unsigned (map (ledger_row h) gs)) (at (eqb g.class 0) refl) ∙ rows_unsigned s h a out gs
-  where
-    at : (b : Bool) → eqb g.class 0 ≡ b → unsigned (ledger_row h g) ≡ true
-    at true e = rw e
-    at false e = rw (e, holds_weights s h a out g 0 e, holds_weights s h a out g 1 e)
+rows_unsigned s h a out (g ∷ gs) = grind (arith, holds_weights s h a out g 0, holds_weights s h a out g 1, rows_unsigned s h a out gs)
 
 rows_held : (row : Group → GroupRow) (w : Group → ℕ → ℕ) (q : Group → ℕ → ℤ) → Weighted row w q → (ks : List Group) → held_total (map row ks) ≡ total (λ g. w g 0 + w g 1) ks
 rows_held row w q ok [] = refl
 rows_held row w q ok (g ∷ gs) = λ i. (ok.weight_is g 0 (omega arith) i + ok.weight_is g 1 (omega arith) i) + rows_held row w q ok gs i
 
-equal : (n m : ℕ) → n ≡ m → eqb n m ≡ true
-equal n m e = grind (arith, nat_tests)
-
 pub own_weights : (s : Start) (h : History) → Admitted s h → phase h ≡ slip → adds_to (weights h) (groups h) ≡ true
 own_weights s h a out =
     ap (adds_to (weights h)) (shown s h a)
     ∙ ap (λ b. b && eqb (held_total (map (ledger_row h) (known h))) (weights h)) (rows_unsigned s h a out (known h))
-    ∙ equal _ _ (rows_held (ledger_row h) (weight h) (holds h) (weighted s h a out) (known h))
+    ∙ eq-eqb _ _ (rows_held (ledger_row h) (weight h) (holds h) (weighted s h a out) (known h))
 
 -- some month volume of a row beyond its limit
 abbrev row_passed : ℕ → GroupRow → Bool
@@ -258,12 +196,8 @@ months_small h p small [] = refl
 months_small h p small (g ∷ gs) =
     ap (λ b. cond b true (rows_passed p (map (ledger_row h) gs)))
     (all_registers (λ r. cond (eqb (r % 2) p) (too_large (get_or (ledger_row h g).month r (pos 0))) false)
-    (λ r l. either (eqb (r % 2) p) (ap too_large (month_row h g r l) ∙ small_volume (allocated h g r) (small g r l))))
+    (λ r l. cond_const (eqb (r % 2) p) _ _ _ (ap too_large (month_row h g r l) ∙ small_volume (allocated h g r) (small g r l)) refl))
     ∙ months_small h p small gs
-  where
-    either : (b : Bool) {c : Bool} → c ≡ false → cond b c false ≡ false
-    either true e = e
-    either false e = refl
 
 pub own_months : (s : Start) (h : History) → Admitted s h → phase h ≡ slip → month_passed (weights h) (residual h) (period_now h) 0 (groups h) ≡ false
 own_months s h a out =
@@ -271,8 +205,8 @@ own_months s h a out =
     ∙ ap (rows_passed (period_now h)) (rows_divide s h a out (shown s h a))
     ∙ months_small (turned divides ∷ h) (period_now h)
     (λ g r l.
-    let x = divide_size (eqb (r % 2) (period_now h)) (allocated h g r) (wrote h g (r / 2)) (done h) (allocated_within s h a g r l) (wrote_small s h a out g (r / 2) (half_small r l)) in
-    let y = subst (λ (p : Rattle.ledger.specs.Events.Phase). done h + Rattle.ledger.proofs.Bounds.busy p ≤ s.quarters) out (done_within s h a) in
+    let x = divide_size (eqb (r % 2) (period_now h)) (allocated h g r) (wrote h g (r / 2)) (done h) (allocated_within s h a g r l) (wrote_small s h a out g (r / 2) (omega arith)) in
+    let y = subst (λ (p : Phase). done h + busy p ≤ s.quarters) out (done_within s h a) in
     let z = quarters_small s h a in
     omega arith)
     (known h)
@@ -300,11 +234,7 @@ volumes_small s h a (g ∷ gs) =
 
 unread_tame : (q : ℕ) (conns : List ConnectionRow) → Tame (first_unread q conns)
 unread_tame q [] = tt
-unread_tame q (conn ∷ conns) = at (eqb conn.mark q) (unread_tame q conns)
-  where
-    at : (b : Bool) → Tame (first_unread q conns) → Tame (cond b (first_unread q conns) (Some (NotRead (code conn.code))))
-    at true t = t
-    at false t = refl
+unread_tame q (conn ∷ conns) = cond_both (eqb conn.mark q) _ _ Tame (λ _. unread_tame q conns) (λ _. refl)
 
 none_tame : (c : Check) → c ≡ None → Tame c
 none_tame c e = subst Tame (sym e) tt
@@ -314,13 +244,13 @@ volume_tame s h a = (tame_quiet _ _ (ap volume_passed (shown s h a) ∙ volumes_
 
 post_tame : (s : Start) (h : History) (k b p w : ℕ) → Admitted s h → Tame (first (turn_checks s h (posts k b p w)))
 post_tame s h k b p w a =
-    tame_front (naming_checks k b p w) (gathering_checks s.rooms (opened_at h) (groups h) k b p w) (tame_when _ _ refl, (tame_when _ _ refl, (tame_when _ _ refl, (tame_when _ _ refl, tt))))
+    tame_front (naming_checks k b p w) (gathering_checks s.rooms (opened_at h) (groups h) k b p w) (search (rules, tame_when))
     (tame_or (when (measured k && (missing (groups h) (group_named b p 0) && full group_rules s.rooms.groups (groups h))) (NoPlace Groups)) _ (tame_when _ _ refl) (tame_after _ _ (LimitPassed Postings) (LimitPassed Volume) [] refl (post_small s h k b p w a) tt))
 
 turn_tame : (s : Start) (h : History) → Admitted s h → (t : Turn) → phase h ≡ wants t → Tame (first (turn_checks s h t))
-turn_tame s h a (opens p c) ok = tame_first (turn_checks s h (opens p c)) (tame_when _ _ refl, (tame_when _ _ refl, (tame_when _ _ refl, tt)))
+turn_tame s h a (opens p c) ok = tame_first (turn_checks s h (opens p c)) (search (rules, tame_when))
 turn_tame s h a (posts k b p w) ok = post_tame s h k b p w a
-turn_tame s h a (weighs m) ok = tame_first (turn_checks s h (weighs m)) (line_tame m (quarter (done h)) (period_now h) (groups h), (tame_when _ _ refl, (tame_when _ _ refl, (tame_when _ _ refl, tt))))
+turn_tame s h a (weighs m) ok = tame_first (turn_checks s h (weighs m)) (line_tame m (quarter (done h)) (period_now h) (groups h), search (rules, tame_when))
 turn_tame s h a puts_back ok = tt
 turn_tame s h a divides ok = tame_first (turn_checks s h divides) (tame_quiet _ _ (ap not (own_weights s h a ok)), (tame_quiet _ _ (own_months s h a ok), tt))
 turn_tame s h a withdraws ok = tt
@@ -330,5 +260,5 @@ pub own_tables : (s : Start) (h : History) → Admitted s h → Own s h
 own_tables s h a = record {
   moves = λ _ m. domestic _ (move_tame s h a m);
   turns = λ t ok. domestic _ (turn_tame s h a t ok);
-  pages = λ _ memory. domestic _ (tame_front (volume_checks (month_at s h) (groups h)) (memory_checks (groups h) memory) (volume_tame s h a) (tame_first (memory_checks (groups h) memory) (tame_when _ _ refl, tt)));
+  pages = λ _ memory. domestic _ (tame_front (volume_checks (month_at s h) (groups h)) (memory_checks (groups h) memory) (volume_tame s h a) (tame_first (memory_checks (groups h) memory) (search (rules, tame_when))));
 }

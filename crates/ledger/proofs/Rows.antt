@@ -14,9 +14,9 @@ use Rattle.ledger.specs.Histories.{Start, Admitted, groups, move_checks}
 use Rattle.ledger.specs.Keys.{listed}
 use Rattle.ledger.specs.Model.{own_group, joined, parted, advanced_row, at_group, switch_groups}
 use Rattle.ledger.specs.Quantities.{connection, codes, known, group_of, standing_sum, allocated, counted, advance_of}
-use Rattle.ledger.proofs.Basics.{group_order, four_read, four_same, two_same}
+use Rattle.ledger.proofs.Basics.{group_order, four_read, four_same, two_same, either_way}
 use Rattle.ledger.proofs.Keyed.{same_is, at_key_made, listing_listed, map_same}
-use Rattle.ledger.proofs.Members.{members, either_way, same_comm, row_at, at_enrolled, unlisted_enrol, listed_read, listed_switch, listed_leave}
+use Rattle.ledger.proofs.Members.{members, same_comm, row_at, at_enrolled, unlisted_enrol, listed_read, listed_switch, listed_leave}
 use Rattle.ledger.proofs.Standing.{standing_enrol, standing_read, standing_switch, standing_leave, standing_bare}
 use Rattle.ledger.proofs.Bare.{holds, holds_bare, allocated_bare, counted_bare}
 
@@ -25,12 +25,7 @@ abbrev pub made : Group → (ℕ → ℕ) → (ℕ → ℤ) → (ℕ → ℤ) �
 made g st q m r = record { group = g; standing = four st; quarter = two q; month = four m; real = four r }
 
 pub made_same : (g : Group) (st st' : ℕ → ℕ) (q q' m m' r r' : ℕ → ℤ) → ((i : ℕ) → i < 4 → st i ≡ st' i) → ((i : ℕ) → i < 2 → q i ≡ q' i) → ((i : ℕ) → i < 4 → m i ≡ m' i) → ((i : ℕ) → i < 4 → r i ≡ r' i) → made g st q m r ≡ made g st' q' m' r'
-made_same g st st' q q' m m' r r' a b c d =
-    let x = four_same st st' a in
-    let y = two_same q q' b in
-    let z = four_same m m' c in
-    let w = four_same r r' d in
-    λ i. record { group = g; standing = x i; quarter = y i; month = z i; real = w i }
+made_same g st st' q q' m m' r r' a b c d = grind (arith, four_same st st' a, two_same q q' b, four_same m m' c, four_same r r' d)
 
 -- the row of a group after a history
 abbrev pub ledger_row : History → Group → GroupRow
@@ -53,9 +48,12 @@ other j g ne = same_comm group_rules g j ∙ ne
 pub self : (g : Group) → same group_rules g g ≡ true
 self g = same_equal group_rules group_order g g refl
 
--- only the standing sums differ
-restanding : (h h' : History) (g : Group) (st : ℕ → ℕ) → ((i : ℕ) → i < 4 → st i ≡ standing_sum h g i) → made g st (holds h g) (allocated h g) (counted h g) ≡ ledger_row h g
-restanding h h' g st e = made_same g st (standing_sum h g) (holds h g) (holds h g) (allocated h g) (allocated h g) (counted h g) (counted h g) e (λ i _. refl) (λ i _. refl) (λ i _. refl)
+-- a row of which only the standing sums are others
+abbrev summed : History → Group → (ℕ → ℕ) → GroupRow
+summed h g st = made g st (holds h g) (allocated h g) (counted h g)
+
+same_sums : (h : History) (g : Group) (st st' : ℕ → ℕ) → ((i : ℕ) → i < 4 → st i ≡ st' i) → summed h g st ≡ summed h g st'
+same_sums h g st st' e = made_same g st st' (holds h g) (holds h g) (allocated h g) (allocated h g) (counted h g) (counted h g) e (λ i _. refl) (λ i _. refl) (λ i _. refl)
 
 pub rows_enrol : (s : Start) (h : History) (x : Enrolment) → Admitted s h → Shown h → first (move_checks s h (enrols x)) ≡ None → Shown (moved (enrols x) ∷ h)
 rows_enrol s h x a ih none =
@@ -65,10 +63,9 @@ rows_enrol s h x a ih none =
     let new = unlisted_enrol s h x m none in
     ap (at_group g (joined x.volumes)) ih
     ∙ at_key_made group_rules group_order (ledger_row h) (ledger_row h') (λ k. refl) g
-    (λ j ne. restanding h h' j (standing_sum h' j) (λ i _. standing_enrol h x j i new ∙ rw (other j g ne) (omega arith)))
+    (λ j ne. same_sums h j (standing_sum h' j) (standing_sum h j) (λ i _. standing_enrol h x j i new ∙ rw (other j g ne) (omega arith)))
     blank (joined x.volumes)
-    (made_same g (standing_sum h' g) (λ i. get_or (four (standing_sum h g)) i 0 + get_or x.volumes i 0) (holds h g) (holds h g) (allocated h g) (allocated h g) (counted h g) (counted h g)
-    (λ i l. standing_enrol h x g i new ∙ rw (self g, four_read (standing_sum h g) 0 i l)) (λ i _. refl) (λ i _. refl) (λ i _. refl))
+    (same_sums h g (standing_sum h' g) (λ i. get_or (four (standing_sum h g)) i 0 + get_or x.volumes i 0) (λ i l. standing_enrol h x g i new ∙ rw (self g, four_read (standing_sum h g) 0 i l)))
     (known h) (row_bare s h a g) m.groups_ordered
 
 pub rows_read : (s : Start) (h : History) (c : ℕ) (st : List ℕ) → Admitted s h → Shown h → first (move_checks s h (reads c st)) ≡ None → Shown (moved (reads c st) ∷ h)
@@ -92,7 +89,7 @@ abbrev left_sum : History → ℕ → Group → ℕ → ℕ
 left_sum h c j i = standing_sum h j i - cond (same group_rules (group_of h c) j) (get_or (connection h c).volumes i 0) 0
 
 abbrev without_in : History → ℕ → Group → GroupRow
-without_in h c j = made j (left_sum h c j) (holds h j) (allocated h j) (counted h j)
+without_in h c j = summed h j (left_sum h c j)
 
 taken_out : (s : Start) (h : History) (c : ℕ) → Admitted s h → Shown h → listed connection_rules c (codes h) ≡ true → at_group (group_of h c) (parted (connection h c).volumes) (groups h) ≡ map (without_in h c) (known h)
 taken_out s h c a ih here =
@@ -100,10 +97,9 @@ taken_out s h c a ih here =
     let g = group_of h c in
     ap (at_group g (parted (connection h c).volumes)) ih
     ∙ at_key_made group_rules group_order (ledger_row h) (without_in h c) (λ k. refl) g
-    (λ j ne. restanding h h j (left_sum h c j) (λ i _. rw (other j g ne) (omega arith)))
+    (λ j ne. same_sums h j (left_sum h c j) (standing_sum h j) (λ i _. rw (other j g ne) (omega arith)))
     blank (parted (connection h c).volumes)
-    (made_same g (left_sum h c g) (λ i. get_or (four (standing_sum h g)) i 0 - get_or (connection h c).volumes i 0) (holds h g) (holds h g) (allocated h g) (allocated h g) (counted h g) (counted h g)
-    (λ i l. rw (self g, four_read (standing_sum h g) 0 i l)) (λ i _. refl) (λ i _. refl) (λ i _. refl))
+    (same_sums h g (left_sum h c g) (λ i. get_or (four (standing_sum h g)) i 0 - get_or (connection h c).volumes i 0) (λ i l. rw (self g, four_read (standing_sum h g) 0 i l)))
     (known h) (row_bare s h a g) m.groups_ordered
     ∙ ap (map (without_in h c)) (listing_listed group_rules group_order g (known h) m.groups_ordered (m.in_known c here))
 
@@ -113,9 +109,7 @@ rows_leave s h c a ih none =
     let h' = moved (leaves c) ∷ h in
     ap (λ conn. at_group (own_group conn) (parted conn.volumes) (groups h)) (at_enrolled h c (members s h a) here)
     ∙ taken_out s h c a ih here
-    ∙ map_same (ledger_row h') (without_in h c)
-    (λ j. made_same j (left_sum h c j) (standing_sum h' j) (holds h j) (holds h j) (allocated h j) (allocated h j) (counted h j) (counted h j) (λ i _. omega (arith, standing_leave h c j i here)) (λ i _. refl) (λ i _. refl) (λ i _. refl))
-    (known h)
+    ∙ map_same (ledger_row h') (without_in h c) (λ j. same_sums h j (left_sum h c j) (standing_sum h' j) (λ i _. omega (arith, standing_leave h c j i here))) (known h)
 
 switch_own : (s : Start) (h : History) (c b p : ℕ) → Admitted s h → Shown h → listed connection_rules c (codes h) ≡ true → same group_rules (group_of h c) (group_named b p (connection h c).class) ≡ true
     → groups h ≡ map (ledger_row (moved (switches c b p) ∷ h)) (known (moved (switches c b p) ∷ h))
@@ -126,8 +120,7 @@ switch_own s h c b p a ih here own =
     let is = same_is group_rules group_order (group_of h c) n own in
     ih
     ∙ map_same (ledger_row h') (ledger_row h)
-    (λ j. made_same j (standing_sum h j) (standing_sum h' j) (holds h j) (holds h j) (allocated h j) (allocated h j) (counted h j) (counted h j)
-    (λ i _. omega (arith, standing_switch h c b p j i m here, ap (λ q. cond (same group_rules q j) (get_or (connection h c).volumes i 0) 0) is)) (λ i _. refl) (λ i _. refl) (λ i _. refl))
+    (λ j. same_sums h j (standing_sum h j) (standing_sum h' j) (λ i _. omega (arith, standing_switch h c b p j i m here, ap (λ q. cond (same group_rules q j) (get_or (connection h c).volumes i 0) 0) is)))
     (known h)
     ∙ ap (map (ledger_row h')) (sym (listing_listed group_rules group_order n (known h) m.groups_ordered (subst (λ (q : Group). listed group_rules q (known h) ≡ true) is (m.in_known c here))))
 
@@ -139,12 +132,11 @@ switch_away s h c b p a ih here away =
     let n = group_named b p (connection h c).class in
     ap (at_group n (joined (connection h c).volumes)) (taken_out s h c a ih here)
     ∙ at_key_made group_rules group_order (without_in h c) (ledger_row h') (λ k. refl) n
-    (λ j ne. made_same j (standing_sum h' j) (left_sum h c j) (holds h j) (holds h j) (allocated h j) (allocated h j) (counted h j) (counted h j)
-    (λ i _. omega (arith, standing_switch h c b p j i m here, ap (λ t. cond t (get_or (connection h c).volumes i 0) 0) (other j n ne))) (λ i _. refl) (λ i _. refl) (λ i _. refl))
+    (λ j ne. same_sums h j (standing_sum h' j) (left_sum h c j) (λ i _. omega (arith, standing_switch h c b p j i m here, ap (λ t. cond t (get_or (connection h c).volumes i 0) 0) (other j n ne))))
     blank (joined (connection h c).volumes)
-    (made_same n (standing_sum h' n) (λ i. get_or (four (left_sum h c n)) i 0 + get_or (connection h c).volumes i 0) (holds h n) (holds h n) (allocated h n) (allocated h n) (counted h n) (counted h n)
-    (λ i l. rw (four_read (left_sum h c n) 0 i l) (omega (arith, standing_switch h c b p n i m here, ap (λ t. cond t (get_or (connection h c).volumes i 0) 0) away, ap (λ t. cond t (get_or (connection h c).volumes i 0) 0) (self n)))) (λ i _. refl) (λ i _. refl) (λ i _. refl))
-    (known h) (λ u. restanding h h n (left_sum h c n) (λ i _. rw away (omega arith)) ∙ row_bare s h a n u) m.groups_ordered
+    (same_sums h n (standing_sum h' n) (λ i. get_or (four (left_sum h c n)) i 0 + get_or (connection h c).volumes i 0)
+    (λ i l. rw (four_read (left_sum h c n) 0 i l) (omega (arith, standing_switch h c b p n i m here, ap (λ t. cond t (get_or (connection h c).volumes i 0) 0) away, ap (λ t. cond t (get_or (connection h c).volumes i 0) 0) (self n)))))
+    (known h) (λ u. same_sums h n (left_sum h c n) (standing_sum h n) (λ i _. rw away (omega arith)) ∙ row_bare s h a n u) m.groups_ordered
 
 pub rows_switch : (s : Start) (h : History) (c b p : ℕ) → Admitted s h → Shown h → first (move_checks s h (switches c b p)) ≡ None → Shown (moved (switches c b p) ∷ h)
 rows_switch s h c b p a ih none =

@@ -1,31 +1,26 @@
 -- A settled month balances. Assumes nothing.
-use Rattle.std.proofs.Common.{◌≡◌, ℕ, zero, suc, ◌+◌, ◌<◌, ◌≤◌, Bool, true, false, cond, not, eqb, ltb, List, [], ◌∷◌, map, ℤ, pos, ◌+ℤ◌, ◌-ℤ◌, neg_ℤ, nat_abs, Some, None, sym, refl, ap, ◌∙◌, arith}
+use Rattle.std.proofs.Common.{◌≡◌, ℕ, suc, ◌+◌, ◌<◌, ◌≤◌, Bool, true, false, cond, eqb, List, [], ◌∷◌, map, ℤ, pos, ◌+ℤ◌, ◌-ℤ◌, neg_ℤ, nat_abs, None, refl, ap, ◌∙◌, arith}
 use Rattle.std.proofs.lemmas.Int.{ints}
-use Rattle.std.proofs.lemmas.Bool.Decides.{nat_tests}
-use Rattle.fault.specs.declared.cause.Fault.TheVariants.{LimitPassed}
-use Rattle.fault.specs.declared.cause.Limit.TheVariants.{Volume}
+use Rattle.std.proofs.lemmas.Bool.{le-ltb}
 use Rattle.allocation.specs.Amounts.{all_volumes, totals_refusal}
 use Rattle.allocation.specs.Scale.{most_volume}
 use Rattle.allocation.proofs.Money.{settles}
 use Rattle.rows.specs.declared.group.Group.{Group}
 use Rattle.rows.specs.Registers.{register}
 use Rattle.rows.specs.Settling.{month_in, real_in, reconciliation, profiled_real, settle_line}
-use Rattle.rows.specs.Groups.{group_named}
 use Rattle.tables.specs.BookRows.{group_rules}
-use Rattle.ledger.specs.Events.{History, enrols, reads, switches, leaves, opens, posts, weighs, divides, withdraws, moved, turned, move_refused, turn_refused}
-use Rattle.ledger.specs.Events.{puts_back as put_back_turn, settles as settle_turn}
+use Rattle.ledger.specs.Events.{History, divides, turned}
 use Rattle.ledger.specs.Histories.{Start, Admitted, groups, month_at}
-use Rattle.ledger.specs.Keys.{listed, listing, total, net}
+use Rattle.ledger.specs.Keys.{listed, total, net}
 use Rattle.ledger.specs.Laws.{Settles, line_in}
-use Rattle.ledger.specs.Pages.{unpriced, real_loss, loss_volume, settle_volumes}
-use Rattle.ledger.specs.Postings.{measured}
-use Rattle.ledger.specs.Quantities.{done, period_now, posted, posted_to, known, wrote, allocated, counted, real, advanced, posted_in, exchange_in, measurement_in, losses_in, read_in, real_loss_in, loss_volume_in, price_in, reconciliation_of}
-use Rattle.ledger.proofs.Basics.{group_order, four_read}
-use Rattle.ledger.proofs.Keyed.{net_same, net_sum, net_listing}
-use Rattle.ledger.proofs.Members.{members, either_way, cond_const}
+use Rattle.ledger.specs.Pages.{unpriced, period_exchange, period_measurement, period_losses, real_loss, loss_volume, settle_volumes}
+use Rattle.ledger.specs.Quantities.{period_now, known, allocated, counted, real, exchange_in, measurement_in, losses_in, read_in, real_loss_in, loss_volume_in, price_in, reconciliation_of}
+use Rattle.ledger.proofs.Basics.{four_read, either_way}
+use Rattle.ledger.proofs.Keyed.{net_same, net_sum}
+use Rattle.ledger.proofs.Members.{members, net_known, cond_const}
 use Rattle.ledger.proofs.Bare.{allocated_bare}
 use Rattle.ledger.proofs.Bounds.{all_sizes, allocated_size, booked_within, counted_size, count_within, advanced_within, done_small}
-use Rattle.ledger.proofs.Closing.{closing, allocated_at, measured_at, measured_sum, divide_adds, same_period, other_period}
+use Rattle.ledger.proofs.Closing.{closing, allocated_at, measured_at, measured_sum, divided_at}
 use Rattle.ledger.proofs.Rows.{ledger_row}
 use Rattle.ledger.proofs.Turns.{shown, register_small}
 
@@ -34,11 +29,7 @@ pub month_row : (h : History) (g : Group) (r : ℕ) → r < 4 → month_in (ledg
 month_row h g r l = four_read (allocated h g) (pos 0) r l
 
 pub real_row : (h : History) (g : Group) (r : ℕ) → r < 4 → real_in (ledger_row h g) r ≡ real h g r
-real_row h g r l = turned_round (eqb g.class 0) _ _ _ _ (four_read (counted h g) (pos 0) r l) (month_row h g r l)
-  where
-    turned_round : (b : Bool) (x y u v : ℤ) → x ≡ y → u ≡ v → cond (not b) x u ≡ cond b v y
-    turned_round true x y u v e f = f
-    turned_round false x y u v e f = e
+real_row h g r l = grind (arith, four_read (counted h g) (pos 0) r l, month_row h g r l)
 
 pub settled_row : (h : History) (g : Group) (r : ℕ) → r < 4 → reconciliation (ledger_row h g) r ≡ reconciliation_of h g r
 settled_row h g r l = λ i. real_row h g r l i -ℤ month_row h g r l i
@@ -48,31 +39,20 @@ profiled_rows h p k [] = refl
 profiled_rows h p k (g ∷ gs) =
     let a = real_row h g (register 0 p) (register_small 0 p (omega arith) k) in
     let b = real_row h g (register 1 p) (register_small 1 p (omega arith) k) in
-    λ i. turned_round (eqb g.class 0) _ _ (λ j. a j +ℤ b j) i +ℤ profiled_rows h p k gs i
-  where
-    turned_round : (b : Bool) (x y : ℤ) → x ≡ y → cond (not b) x (pos 0) ≡ cond b (pos 0) y
-    turned_round true x y e = refl
-    turned_round false x y e = e
+    grind (arith, a, b, profiled_rows h p k gs)
 
 pub real_loss_is : (s : Start) (h : History) → Admitted s h → (p : ℕ) → p < 2 → real_loss (month_at s h) p (groups h) ≡ real_loss_in h p
 real_loss_is s h a p k =
     let e = ap (profiled_real p) (shown s h a) ∙ profiled_rows h p k (known h) in
     λ i. neg_ℤ (sums p k i +ℤ e i)
   where
-    sums : (p : ℕ) → p < 2 → Rattle.ledger.specs.Pages.period_exchange (month_at s h) p +ℤ Rattle.ledger.specs.Pages.period_measurement (month_at s h) p ≡ exchange_in h p +ℤ measurement_in h p
-    sums zero k = refl
-    sums (suc zero) k = refl
+    sums : (p : ℕ) → p < 2 → period_exchange (month_at s h) p +ℤ period_measurement (month_at s h) p ≡ exchange_in h p +ℤ measurement_in h p
     sums (suc (suc p)) k = absurd (omega arith)
+    sums p k = refl
 
-pub losses_are : (s : Start) (h : History) (p : ℕ) → p < 2 → Rattle.ledger.specs.Pages.period_losses (month_at s h) p ≡ losses_in h p
-losses_are s h zero k = refl
-losses_are s h (suc zero) k = refl
+losses_are : (s : Start) (h : History) (p : ℕ) → p < 2 → period_losses (month_at s h) p ≡ losses_in h p
 losses_are s h (suc (suc p)) k = absurd (omega arith)
-
-pub prices_are : (s : Start) (h : History) (p : ℕ) → p < 2 → Rattle.ledger.specs.States.period_price (month_at s h) p ≡ price_in h p
-prices_are s h zero k = refl
-prices_are s h (suc zero) k = refl
-prices_are s h (suc (suc p)) k = absurd (omega arith)
+losses_are s h p k = refl
 
 line_rows : (h : History) (p : ℕ) → p < 2 → (ks : List Group) (loss : ℤ) → settle_line p (map (ledger_row h) ks) loss ≡ line_in h p ks loss
 line_rows h p k [] loss = refl
@@ -98,68 +78,23 @@ bare_measured h p g u = cond_const (eqb g.class 0) _ _ (pos 0) (λ i. allocated_
 abbrev Metered : History → ℕ → Type 0
 Metered h p = net (measured_allocated h p) (known h) ≡ measurement_in h p
 
-metered_grows : (s : Start) (h : History) (p : ℕ) (g : Group) → Admitted s h → Metered h p → net (measured_allocated h p) (listing group_rules g (known h)) ≡ measurement_in h p
-metered_grows s h p g a ih = net_listing group_rules group_order (measured_allocated h p) g (known h) (members s h a).groups_ordered (bare_measured h p g) ∙ ih
-
-metered_posts : (s : Start) (h : History) (j b t w p : ℕ) → Admitted s h → Metered h p → Metered (turned (posts j b t w) ∷ h) p
-metered_posts s h j b t w p a ih = at (measured j)
-  where
-    at : (x : Bool) → net (measured_allocated h p) (cond x (listing group_rules (group_named b t 0) (known h)) (known h)) ≡ measurement_in h p
-    at true = metered_grows s h p (group_named b t 0) a ih
-    at false = ih
-
 metered_divide : (s : Start) (h : History) (p : ℕ) → Admitted s h → p < 2 → Metered h p → Metered (turned divides ∷ h) p
-metered_divide s h p a k ih = at (eqb (period_now h) p) refl
+metered_divide s h p a k ih =
+    let h' = turned divides ∷ h in
+    either_way (eqb (period_now h) p) (Metered h' p)
+    (λ e.
+    let n = net_same (λ g. measured_allocated h p g +ℤ measured_at h g) (measured_allocated h' p) (λ g. step g ∙ rw e) (known h) ∙ net_sum (measured_allocated h p) (measured_at h) (known h) in
+    let m = measured_sum s h a in
+    rw e (omega (arith, ints)))
+    (λ e. let n = net_same (measured_allocated h p) (measured_allocated h' p) (λ g. step g ∙ rw e) (known h) in rw e (omega (arith, ints)))
   where
-    wrote_measured : (g : Group) (x : ℤ) (d : ℕ) (b : Bool) → eqb g.class 0 ≡ true → cond b (x +ℤ wrote h g d) x ≡ cond b (x +ℤ posted_to h g d) x
-    wrote_measured g x d b e = ap (λ c. cond b (x +ℤ cond c (posted_to h g d) (Rattle.ledger.specs.Quantities.gets (Rattle.ledger.specs.Quantities.weights h) (Rattle.ledger.specs.Quantities.residual h) (Rattle.ledger.specs.Quantities.weight h) 0 (known h) g d)) x) e
-
-    step : (b : Bool) → eqb p (period_now h) ≡ b → (g : Group) → measured_allocated (turned divides ∷ h) p g ≡ measured_allocated h p g +ℤ cond b (measured_at h g) (pos 0)
-    step b e g = either_way (eqb g.class 0) (measured_allocated (turned divides ∷ h) p g ≡ measured_allocated h p g +ℤ cond b (measured_at h g) (pos 0))
-        (λ t.
-        let x = divide_adds h g 0 p (omega arith) k ∙ ap (λ c. cond c (allocated h g (register 0 p) +ℤ wrote h g 0) (allocated h g (register 0 p))) e ∙ wrote_measured g (allocated h g (register 0 p)) 0 b t in
-        let y = divide_adds h g 1 p (omega arith) k ∙ ap (λ c. cond c (allocated h g (register 1 p) +ℤ wrote h g 1) (allocated h g (register 1 p))) e ∙ wrote_measured g (allocated h g (register 1 p)) 1 b t in
-        ap (λ c. cond c (allocated_at (turned divides ∷ h) p g) (pos 0)) t
-        ∙ (λ i. x i +ℤ y i)
-        ∙ added b (allocated h g (register 0 p)) (allocated h g (register 1 p)) (posted_to h g 0) (posted_to h g 1)
-        ∙ (λ i. cond (sym t i) (allocated_at h p g) (pos 0) +ℤ cond b (cond (sym t i) (posted_to h g 0 +ℤ posted_to h g 1) (pos 0)) (pos 0)))
-        (λ f.
-        ap (λ c. cond c (allocated_at (turned divides ∷ h) p g) (pos 0)) f
-        ∙ none b
-        ∙ (λ i. cond (sym f i) (allocated_at h p g) (pos 0) +ℤ cond b (cond (sym f i) (posted_to h g 0 +ℤ posted_to h g 1) (pos 0)) (pos 0)))
-      where
-        added : (b : Bool) (x y u v : ℤ) → cond b (x +ℤ u) x +ℤ cond b (y +ℤ v) y ≡ (x +ℤ y) +ℤ cond b (u +ℤ v) (pos 0)
-        added true x y u v = omega (arith, ints)
-        added false x y u v = omega (arith, ints)
-
-        none : (b : Bool) → pos 0 ≡ pos 0 +ℤ cond b (pos 0) (pos 0)
-        none true = refl
-        none false = refl
-
-    at : (b : Bool) → eqb (period_now h) p ≡ b → Metered (turned divides ∷ h) p
-    at true e =
-        let n = net_same (λ g. measured_allocated h p g +ℤ measured_at h g) (measured_allocated (turned divides ∷ h) p) (step true (same_period _ _ e)) (known h) ∙ net_sum (measured_allocated h p) (measured_at h) (known h) in
-        let m = measured_sum s h a in
-        rw e (omega (arith, ints))
-    at false e =
-        let n = net_same (λ g. measured_allocated h p g +ℤ pos 0) (measured_allocated (turned divides ∷ h) p) (step false (other_period _ _ e)) (known h) ∙ net_same (measured_allocated h p) (λ g. measured_allocated h p g +ℤ pos 0) (λ g. omega (arith, ints)) (known h) in
-        rw e (omega (arith, ints))
+    step : (g : Group) → measured_allocated (turned divides ∷ h) p g ≡ cond (eqb (period_now h) p) (measured_allocated h p g +ℤ measured_at h g) (measured_allocated h p g)
+    step g = grind (arith, divided_at h g p k)
 
 metered : (s : Start) (h : History) → Admitted s h → (p : ℕ) → p < 2 → Metered h p
 metered s [] a p k = refl
-metered s (moved (enrols x) ∷ h) a p k = metered_grows s h p _ a.0 (metered s h a.0 p k)
-metered s (moved (reads c st) ∷ h) a p k = metered s h a.0 p k
-metered s (moved (switches c b t) ∷ h) a p k = metered_grows s h p _ a.0 (metered s h a.0 p k)
-metered s (moved (leaves c) ∷ h) a p k = metered s h a.0 p k
-metered s (turned (opens q c) ∷ h) a p k = metered s h a.0 p k
-metered s (turned (posts j b t w) ∷ h) a p k = metered_posts s h j b t w p a.0 (metered s h a.0 p k)
-metered s (turned (weighs m) ∷ h) a p k = metered s h a.0 p k
-metered s (turned put_back_turn ∷ h) a p k = metered s h a.0 p k
 metered s (turned divides ∷ h) a p k = metered_divide s h p a.0 k (metered s h a.0 p k)
-metered s (turned withdraws ∷ h) a p k = metered s h a.0 p k
-metered s (turned settle_turn ∷ h) a p k = metered s h a.0 p k
-metered s (move_refused m f ∷ h) a p k = metered s h a.0 p k
-metered s (turn_refused t f ∷ h) a p k = metered s h a.0 p k
+metered s (e ∷ h) a p k = net_known (measured_allocated h p) e h (members s h a.0).groups_ordered (bare_measured h p) ∙ metered s h a.0 p k
 
 -- the reconciliation volumes of a group in a period
 abbrev pub settled_at : History → ℕ → Group → ℤ
@@ -223,14 +158,11 @@ all_settled s h a p k =
     let v = advanced_within s h a in
     omega arith
 
-small_total : (z : ℤ) → nat_abs z ≤ most_volume → ltb most_volume (nat_abs z) ≡ false
-small_total z l = grind (arith, nat_tests)
-
 -- so no running total passes its limit
 running_small : (h : History) (p : ℕ) (ks : List Group) (loss s : ℤ) → nat_abs s + total (settled_size h p) ks ≤ most_volume → s +ℤ (net (settled_at h p) ks +ℤ loss) ≡ pos 0 → totals_refusal s (map unpriced (line_in h p ks loss)) ≡ None
 running_small h p [] loss s few none =
     let z : s +ℤ loss ≡ pos 0 = omega (arith, ints) in
-    ap (λ x. cond (ltb most_volume (nat_abs x)) (Some (LimitPassed Volume)) None) z
+    rw z
 running_small h p (g ∷ gs) loss s few none =
     let x = reconciliation_of h g (register 0 p) in
     let y = reconciliation_of h g (register 1 p) in
@@ -238,9 +170,7 @@ running_small h p (g ∷ gs) loss s few none =
     let b : nat_abs ((s +ℤ x) +ℤ y) ≤ most_volume = omega (arith, ints) in
     let c : nat_abs ((s +ℤ x) +ℤ y) + total (settled_size h p) gs ≤ most_volume = omega (arith, ints) in
     let d : ((s +ℤ x) +ℤ y) +ℤ (net (settled_at h p) gs +ℤ loss) ≡ pos 0 = omega (arith, ints) in
-    ap (λ t. cond t (Some (LimitPassed Volume)) (totals_refusal (s +ℤ x) (unpriced y ∷ map unpriced (line_in h p gs loss)))) (small_total (s +ℤ x) a)
-    ∙ ap (λ t. cond t (Some (LimitPassed Volume)) (totals_refusal ((s +ℤ x) +ℤ y) (map unpriced (line_in h p gs loss)))) (small_total ((s +ℤ x) +ℤ y) b)
-    ∙ running_small h p gs loss ((s +ℤ x) +ℤ y) c d
+    rw (le-ltb most_volume _ a, le-ltb most_volume _ b) (running_small h p gs loss ((s +ℤ x) +ℤ y) c d)
 
 pub totals_small : (s : Start) (h : History) → Admitted s h → (p : ℕ) → p < 2 → totals_refusal (pos 0) (settle_volumes (month_at s h) p (groups h)) ≡ None
 totals_small s h a p k =

@@ -1,9 +1,9 @@
 -- What holds while a slip is out: T and R are the history's, within their limits, and every fraction that was needed was there. Assumes nothing.
-use Rattle.std.proofs.Common.{◌≡◌, ℕ, ◌+◌, ◌<◌, ◌≤◌, Bool, true, false, cond, not, ◌&&◌, eqb, ltb, List, [], ◌∷◌, map, get_or, ℤ, pos, ◌+ℤ◌, ◌-ℤ◌, nat_abs, Some, None, Option, sym, refl, ap, ◌∙◌, subst, arith}
+use Rattle.std.proofs.Common.{◌≡◌, ℕ, zero, suc, ◌+◌, ◌<◌, ◌≤◌, true, false, not, ◌&&◌, eqb, ltb, List, [], ◌∷◌, map, get_or, ℤ, pos, ◌+ℤ◌, ◌-ℤ◌, nat_abs, Some, None, Option, refl, ap, ◌∙◌, subst, arith}
 use Rattle.std.proofs.lemmas.Int.{ints}
-use Rattle.std.proofs.lemmas.Bool.{both_ways}
+use Rattle.std.proofs.lemmas.Bool.{both_ways, ltb-false}
 use Rattle.std.proofs.lemmas.Bool.Decides.{nat_tests}
-use Rattle.fault.specs.declared.cause.Fault.{Fault}
+use Rattle.fault.specs.declared.cause.Quarter.{Quarter}
 use Rattle.allocation.specs.Correction.{residual_of}
 use Rattle.allocation.specs.Scale.{most_weights, most_residual}
 use Rattle.profile.specs.Meanings.{Meaning}
@@ -11,21 +11,20 @@ use Rattle.profile.specs.Weights.{weight_meant}
 use Rattle.rows.specs.declared.group.Group.{Group}
 use Rattle.rows.specs.declared.group.GroupRow.{GroupRow}
 use Rattle.rows.specs.Registers.{four, register}
-use Rattle.rows.specs.Weighing.{row_weight, row_absent, absent, first_absent, or_else, weights_total}
+use Rattle.rows.specs.Weighing.{row_weight, row_absent, absent, first_absent, weights_total}
 use Rattle.rows.specs.Weighing.{weights_net as rows_net}
 use Rattle.tables.specs.BookRows.{group_rules}
 use Rattle.tables.specs.Rules.{same}
-use Rattle.ledger.specs.Events.{History, opens, posts, weighs, puts_back, divides, withdraws, settles, moved, turned, move_refused, turn_refused, phase, between, gathering, slip, settled}
+use Rattle.ledger.specs.Events.{History, weighs, turned, turn_refused, phase, slip}
 use Rattle.ledger.specs.Histories.{Start, Admitted, groups, opened_at, weighed_at, turn_checks}
 use Rattle.ledger.specs.Keys.{listed, total, net}
 use Rattle.ledger.specs.Model.{quarter, weighing}
 use Rattle.ledger.specs.Postings.{exchange, measurement, losses}
 use Rattle.ledger.specs.Quantities.{done, period_now, posted, known, standing_sum, weight, weights, weights_net, residual, meant}
 use Rattle.ledger.specs.States.{Weighed}
-use Rattle.ledger.proofs.Basics.{group_order, all_quiet, quiet, four_read}
+use Rattle.ledger.proofs.Basics.{group_order, or_else_none, all_quiet, quiet, four_read, either_way}
 use Rattle.ledger.proofs.Keyed.{same_is}
-use Rattle.ledger.proofs.Members.{either_way}
-use Rattle.ledger.proofs.Bare.{apart, period_small}
+use Rattle.ledger.proofs.Bare.{period_small}
 use Rattle.ledger.proofs.Rows.{ledger_row}
 use Rattle.ledger.proofs.Turns.{weight_row, register_small, shown}
 
@@ -56,9 +55,6 @@ pub record Slip (h : History) : Type 0 where
   pub carried : weights h ≡ 0 → residual h ≡ pos 0
   pub present : (g : Group) (d : ℕ) → listed group_rules g (known h) ≡ true → eqb g.class 0 ≡ false → d < 2 → Present (meant h g.class d (done h)) (standing_sum h g (register d (period_now h)))
 
-within : (n m : ℕ) → ltb m n ≡ false → n ≤ m
-within n m e = grind (arith, nat_tests)
-
 size_none : (r : ℤ) → nat_abs r ≡ 0 → r ≡ pos 0
 size_none r e = omega (arith, ints)
 
@@ -66,33 +62,28 @@ none_carried : (t n : ℕ) → (eqb t 0 && not (eqb n 0)) ≡ false → t ≡ 0 
 none_carried t n e z = grind (arith, nat_tests)
 
 -- where no fraction of the line is absent, none of a group's is
-first_none : (a b : Option Fault) → or_else a b ≡ None → (a ≡ None) × (b ≡ None)
-first_none None b e = (refl, e)
-first_none (Some f) b e = absurd (let z : ◌≡◌ {A = ℕ} 0 1 = cc in omega arith)
-
-absent_none : (row : GroupRow) (d : ℕ) (q : Rattle.fault.specs.declared.cause.Quarter.Quarter) (o : Option ℕ) (sum : ℕ) → absent row d q (weight_meant o sum) ≡ None → Present o sum
+absent_none : (row : GroupRow) (d : ℕ) (q : Quarter) (o : Option ℕ) (sum : ℕ) → absent row d q (weight_meant o sum) ≡ None → Present o sum
 absent_none row d q (Some parts) sum e some = (parts, refl)
-absent_none row d q None sum e some = absurd (at (eqb sum 0) refl e)
+absent_none row d q None sum e some = absurd (some (weightless sum e))
   where
-    at : (b : Bool) → eqb sum 0 ≡ b → absent row d q (cond b (Some 0) None) ≡ None → ⊥
-    at true was e = some (grind (arith, nat_tests))
-    at false was e = let z : ◌≡◌ {A = ℕ} 0 1 = cc in omega arith
+    weightless : (n : ℕ) → absent row d q (weight_meant None n) ≡ None → n ≡ 0
+    weightless n e = grind (arith, nat_tests)
 
 row_present : (h : History) (m : Meaning) (g : Group) → period_now h < 2 → row_absent m (quarter (done h)) (period_now h) (ledger_row h g) ≡ None → eqb g.class 0 ≡ false → (d : ℕ) → d < 2 → Present (m g.class d (done h)) (standing_sum h g (register d (period_now h)))
 row_present h m g k e z d l =
-    let parts = first_none _ _ (ap (λ b. cond (not b) (or_else (absent (ledger_row h g) 0 (quarter (done h)) (row_weight m (quarter (done h)) (period_now h) (ledger_row h g) 0)) (absent (ledger_row h g) 1 (quarter (done h)) (row_weight m (quarter (done h)) (period_now h) (ledger_row h g) 1))) None) (sym z) ∙ e) in
+    let parts = or_else_none _ _ (rw z at e) in
     subst (λ (n : ℕ). Present (m g.class d (done h)) n) (four_read (standing_sum h g) 0 (register d (period_now h)) (register_small d (period_now h) l k))
     (at d l parts.0 parts.1)
   where
     at : (d : ℕ) → d < 2 → absent (ledger_row h g) 0 (quarter (done h)) (row_weight m (quarter (done h)) (period_now h) (ledger_row h g) 0) ≡ None → absent (ledger_row h g) 1 (quarter (done h)) (row_weight m (quarter (done h)) (period_now h) (ledger_row h g) 1) ≡ None → Present (m g.class d (done h)) (get_or (four (standing_sum h g)) (register d (period_now h)) 0)
-    at Prim.Native.Nat.zero l a b = absent_none (ledger_row h g) 0 (quarter (done h)) (m g.class 0 (done h)) _ a
-    at (Prim.Native.Nat.suc Prim.Native.Nat.zero) l a b = absent_none (ledger_row h g) 1 (quarter (done h)) (m g.class 1 (done h)) _ b
-    at (Prim.Native.Nat.suc (Prim.Native.Nat.suc d)) l a b = absurd (omega arith)
+    at (suc (suc d)) l a b = absurd (omega arith)
+    at zero l a b = absent_none (ledger_row h g) 0 (quarter (done h)) (m g.class 0 (done h)) _ a
+    at d l a b = absent_none (ledger_row h g) 1 (quarter (done h)) (m g.class 1 (done h)) _ b
 
 line_present : (h : History) (m : Meaning) → period_now h < 2 → (ks : List Group) → first_absent m (quarter (done h)) (period_now h) (map (ledger_row h) ks) ≡ None → (g : Group) → listed group_rules g ks ≡ true → row_absent m (quarter (done h)) (period_now h) (ledger_row h g) ≡ None
 line_present h m k [] e g l = absurd (both_ways _ refl l)
 line_present h m k (j ∷ js) e g l =
-    let parts = first_none _ _ e in
+    let parts = or_else_none _ _ e in
     either_way (same group_rules j g) (row_absent m (quarter (done h)) (period_now h) (ledger_row h g) ≡ None)
     (λ t. subst (λ (q : Group). row_absent m (quarter (done h)) (period_now h) (ledger_row h q) ≡ None) (same_is group_rules group_order j g t) parts.0)
     (λ f. line_present h m k js parts.1 g (rw f at l))
@@ -106,21 +97,13 @@ weigh_slip s h m a =
     let none = quiet _ _ q.1.1.1.0 in
     let k = period_small s h a.0 in
     record {
-      few = within _ _ (subst (λ (x : Weighed). ltb most_weights x.total ≡ false) w few);
-      small = within _ _ (subst (λ (x : Weighed). ltb most_residual (nat_abs x.residual) ≡ false) w small);
+      few = ltb-false _ _ (subst (λ (x : Weighed). ltb most_weights x.total ≡ false) w few);
+      small = ltb-false _ _ (subst (λ (x : Weighed). ltb most_residual (nat_abs x.residual) ≡ false) w small);
       carried = λ z. size_none _ (none_carried _ _ (subst (λ (x : Weighed). (eqb x.total 0 && not (eqb (nat_abs x.residual) 0)) ≡ false) w none) z);
       present = λ g d l z k'. row_present h m g k (line_present h m k (known h) (subst (λ (rows : List GroupRow). first_absent m (quarter (done h)) (period_now h) rows ≡ None) (shown s h a.0) q.0) g l) z d k';
     }
 
 pub slip_facts : (s : Start) (h : History) → Admitted s h → phase h ≡ slip → Slip h
-slip_facts s [] a out = absurd (apart between slip between refl out (λ e. omega arith))
-slip_facts s (moved m ∷ h) a out = absurd (apart between slip (phase h) a.1 out (λ e. omega arith))
-slip_facts s (turned (opens p c) ∷ h) a out = absurd (apart gathering slip gathering refl out (λ e. omega arith))
-slip_facts s (turned (posts k b p w) ∷ h) a out = absurd (apart gathering slip gathering refl out (λ e. omega arith))
 slip_facts s (turned (weighs m) ∷ h) a out = weigh_slip s h m a
-slip_facts s (turned puts_back ∷ h) a out = absurd (apart gathering slip gathering refl out (λ e. omega arith))
-slip_facts s (turned divides ∷ h) a out = absurd (apart between slip between refl out (λ e. omega arith))
-slip_facts s (turned withdraws ∷ h) a out = absurd (apart between slip between refl out (λ e. omega arith))
-slip_facts s (turned settles ∷ h) a out = absurd (apart settled slip settled refl out (λ e. omega arith))
-slip_facts s (move_refused m f ∷ h) a out = let ih = slip_facts s h a.0 out in record { few = ih.few; small = ih.small; carried = ih.carried; present = ih.present }
 slip_facts s (turn_refused t f ∷ h) a out = let ih = slip_facts s h a.0 out in record { few = ih.few; small = ih.small; carried = ih.carried; present = ih.present }
+slip_facts s h a out = absurd cc

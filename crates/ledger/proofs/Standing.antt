@@ -1,6 +1,5 @@
 -- Standing sums from entry to entry. Assumes nothing.
 use Rattle.std.proofs.Common.{◌≡◌, ℕ, ◌+◌, ◌≤◌, true, false, cond, List, ◌∷◌, get_or, refl, ap, ◌∙◌, subst}
-use Rattle.std.proofs.lemmas.Bool.{both_ways}
 use Rattle.record.specs.declared.entry.Enrolment.{Enrolment}
 use Rattle.rows.specs.declared.group.Group.{Group}
 use Rattle.rows.specs.Groups.{group_named}
@@ -10,9 +9,9 @@ use Rattle.tables.proofs.Finding.{same_equal}
 use Rattle.ledger.specs.Events.{History, enrols, reads, switches, leaves, moved}
 use Rattle.ledger.specs.Keys.{listed}
 use Rattle.ledger.specs.Quantities.{connection, codes, known, group_of, volume_in, standing_sum}
-use Rattle.ledger.proofs.Basics.{connection_order, group_order}
-use Rattle.ledger.proofs.Keyed.{same_is, total_listing, total_changed, total_unlisting, total_zero, total_one, total_same}
-use Rattle.ledger.proofs.Members.{Members, other_way, self, either_way}
+use Rattle.ledger.proofs.Basics.{connection_order, group_order, either_way}
+use Rattle.ledger.proofs.Keyed.{listed_apart, total_listing, total_changed, total_unlisting, total_zero, total_one, total_same}
+use Rattle.ledger.proofs.Members.{Members, other_way, self}
 
 pub standing_enrol : (h : History) (x : Enrolment) (g : Group) (r : ℕ) → listed connection_rules x.code (codes h) ≡ false
     → standing_sum (moved (enrols x) ∷ h) g r ≡ standing_sum h g r + cond (same group_rules (group_named x.brp x.supplier x.class) g) (get_or x.volumes r 0) 0
@@ -49,6 +48,4 @@ standing_own h c r here =
 pub standing_bare : (h : History) (g : Group) (r : ℕ) → Members h → listed group_rules g (known h) ≡ false → standing_sum h g r ≡ 0
 standing_bare h g r m u =
     total_zero connection_rules connection_order (volume_in h g r) (codes h)
-    (λ c l. either_way (same group_rules (group_of h c) g) (volume_in h g r c ≡ 0)
-    (λ t. absurd (both_ways _ u (subst (λ (q : Group). listed group_rules q (known h) ≡ true) (same_is group_rules group_order (group_of h c) g t) (m.in_known c l))))
-    (λ f. rw f))
+    (λ c l. rw (listed_apart group_rules group_order (group_of h c) g (known h) (m.in_known c l) u))

@@ -1,7 +1,8 @@
 -- The kinds of postings: their numbers, and what they count in. Assumes nothing.
-use Rattle.std.specs.Prelude.{ℕ, ◌+◌, ◌-◌, Bool, true, cond, List, [], ◌∷◌, map, length, sum, ℤ, pos, ◌-ℤ◌, neg_ℤ, Option, ◌==◌, slice_index}
+use Rattle.std.specs.Prelude.{ℕ, ◌+◌, ◌-◌, ◌≡◌, Bool, true, cond, List, [], ◌∷◌, map, length, sum, ℤ, pos, ◌-ℤ◌, neg_ℤ, Option, Some, None, Result, Ok, Err, ◌==◌, slice_index}
 use Rattle.record.specs.Family.{numbered}
 use Rattle.ledger.specs.declared.posting.PostingKind.{PostingKind}
+use Rattle.ledger.specs.declared.posting.UnknownPosting.{UnknownPosting}
 use Rattle.ledger.specs.declared.posting.PostingKind.TheVariants.{ExchangeIn, ExchangeOut, MeasuredOfftake, MeasuredFeedIn, LossOfftake, LossFeedIn}
 
 abbrev pub posting_number : PostingKind → ℕ
@@ -18,6 +19,11 @@ posting_kinds = ExchangeIn ∷ ExchangeOut ∷ MeasuredOfftake ∷ MeasuredFeedI
 -- the kind with a number, if there is one
 abbrev pub numbered_kind : ℕ → Option PostingKind
 numbered_kind n = numbered posting_number posting_kinds n
+
+-- the kind with a number, or the number that no kind has
+abbrev pub Numbers : ℕ → Result PostingKind UnknownPosting → Type 0
+Numbers n (Ok kind) = numbered_kind n ≡ Some kind
+Numbers n (Err e) = (numbered_kind n ≡ None) × (e.0 ≡ n)
 
 -- kinds are numbered from 1 to this, as `posting_kinds` has them
 abbrev pub last_kind : ℕ

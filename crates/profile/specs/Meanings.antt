@@ -2,7 +2,7 @@
 use Rattle.std.specs.Prelude.{◌≡◌, ℕ, ◌≤◌, false, Some, None, Ok, Err, Option, Result}
 use Rattle.fault.specs.declared.cause.Fault.{Fault}
 use Rattle.fault.specs.declared.cause.Fault.TheVariants.{FractionAbsent}
-use Rattle.fault.specs.declared.cause.Quarter.{Quarter}
+use Rattle.fault.specs.declared.cause.Question.{Question}
 use Rattle.allocation.specs.declared.fraction.Fraction.{Fraction}
 use Rattle.allocation.specs.Scale.{whole, most_quarters}
 use Rattle.profile.specs.Places.{covered}
@@ -10,6 +10,10 @@ use Rattle.profile.specs.Places.{covered}
 -- class, direction and quarter to the parts of a fraction, or to nothing
 abbrev pub Meaning : Type 0
 Meaning = ℕ → ℕ → ℕ → Option ℕ
+
+-- what a meaning says of a question
+abbrev pub meant : Meaning → Question → Option ℕ
+meant meaning q = meaning q.class q.direction q.quarter.0
 
 -- no fraction passes the largest
 abbrev pub Bounded : Option ℕ → Type 0
@@ -29,8 +33,8 @@ Answers value meant fault (Ok x) = meant ≡ Some (value x)
 Answers value meant fault (Err e) = (meant ≡ None) × (e ≡ fault)
 
 -- a question is answered with the fraction that is meant, or with the fault that names what was asked
-abbrev pub Answered : Meaning → ℕ → ℕ → Quarter → Result Fraction Fault → Type 0
-Answered meaning class direction quarter = Answers (λ f. f.parts) (meaning class direction quarter.0) (FractionAbsent class direction quarter)
+abbrev pub Answered : Meaning → Question → Result Fraction Fault → Type 0
+Answered meaning q = Answers (λ f. f.parts) (meant meaning q) (FractionAbsent q)
 
 -- the fraction that was found is the one that is meant, and none is meant where none was found
 abbrev pub Finds : Option ℕ → Option Fraction → Type 0

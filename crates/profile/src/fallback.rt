@@ -6,7 +6,7 @@ ghost use Rattle.profile.specs.Laws.{fallback_lawful};
 use crate::quarters::Quarters;
 use crate::source::ProfileSource;
 use allocation::Fraction;
-use fault::{Fault, Quarter};
+use fault::{Fault, Question};
 
 // The first source, and the second where the first has no fraction.
 #[derive(Drop)]
@@ -35,13 +35,11 @@ impl<F: ProfileSource, S: ProfileSource> ProfileSource for Fallback<F, S> {
         self.first.quarters().least(self.second.quarters())
     }
 
-    fn fraction(&self, class: u8, direction: u8, quarter: Quarter) -> Result<Fraction, Fault> {
-        if quarter.0 >= self.quarters().count() {
-            return Err(Fault::FractionAbsent(class, direction, quarter));
+    fn fraction(&self, question: Question) -> Result<Fraction, Fault> {
+        if question.quarter.0 >= self.quarters().count() {
+            return Err(Fault::FractionAbsent(question));
         }
-        match self.first.fraction(class, direction, quarter) {
-            Ok(fraction) => Ok(fraction),
-            Err(_) => self.second.fraction(class, direction, quarter),
-        }
+        let first = self.first.fraction(question);
+        first.or_else(|_| self.second.fraction(question))
     }
 }

@@ -4,7 +4,7 @@ ghost use Rattle.std.specs.Prelude.{◌≡◌};
 use crate::quarters::Quarters;
 use crate::source::ProfileSource;
 use allocation::Fraction;
-use fault::{Fault, Quarter};
+use fault::{Fault, Question};
 
 impl<'a, S: ProfileSource> ProfileSource for &'a S {
     ghost until = { λ lent. S.ProfileSource.until lent.now };
@@ -17,7 +17,7 @@ impl<'a, S: ProfileSource> ProfileSource for &'a S {
         S::quarters(*self)
     }
 
-    fn fraction(&self, class: u8, direction: u8, quarter: Quarter) -> Result<Fraction, Fault> {
-        S::fraction(*self, class, direction, quarter)
+    fn fraction(&self, question: Question) -> Result<Fraction, Fault> {
+        S::fraction(*self, question)
     }
 }

@@ -10,7 +10,6 @@ pub mod quarters;
 pub mod reference;
 pub mod source;
 pub mod weigh;
-pub mod wide;
 
 pub use fallback::Fallback;
 pub use nothing::NoProfile;
@@ -19,5 +18,4 @@ pub use published::PublishedTable;
 pub use quarters::Quarters;
 pub use reference::ReferenceGroup;
 pub use source::ProfileSource;
-pub use weigh::weight_by;
-pub use wide::wide_weight_by;
+pub use weigh::{weight_by, wide_weight_by};

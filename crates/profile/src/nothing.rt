@@ -6,7 +6,7 @@ ghost use Rattle.profile.specs.Laws.{nothing_lawful};
 use crate::quarters::Quarters;
 use crate::source::ProfileSource;
 use allocation::Fraction;
-use fault::{Fault, Quarter};
+use fault::{Fault, Question};
 
 // Nothing, for a month of these quarters: it has a number of quarters, since in a fallback the smaller one counts.
 #[derive(Clone, Copy)]
@@ -33,7 +33,7 @@ impl ProfileSource for NoProfile {
         self.quarters
     }
 
-    fn fraction(&self, class: u8, direction: u8, quarter: Quarter) -> Result<Fraction, Fault> {
-        Err(Fault::FractionAbsent(class, direction, quarter))
+    fn fraction(&self, question: Question) -> Result<Fraction, Fault> {
+        Err(Fault::FractionAbsent(question))
     }
 }

@@ -1,15 +1,15 @@
 // Where a table keeps the number for a class, a direction and a quarter.
 ghost use Rattle.std.specs.Prelude.{◌≡◌, ◌*◌, ◌<◌, true, false, Some, None};
-ghost use Rattle.profile.specs.Places.{last_class, directions, covered, line_of, place_of, number_at};
+ghost use Rattle.profile.specs.Places.{last_class, directions, covers, line_of, place_of};
 
 use crate::quarters::Quarters;
-use fault::Quarter;
+use fault::Question;
 
 // Classes 1 to this have a profile; class 0 is measured.
-const LAST_CLASS: u8 = 16;
+pub(crate) const LAST_CLASS: u8 = 16;
 
 // Offtake and feed-in.
-const DIRECTIONS: u8 = 2;
+pub(crate) const DIRECTIONS: u8 = 2;
 
 // A line for each class and direction: offtake of class 1, feed-in of class 1, offtake of class 2, and so on.
 pub const LINES: usize = LAST_CLASS as usize * DIRECTIONS as usize;
@@ -23,29 +23,18 @@ pub(crate) struct Spot {
 }
 
 // The spot, for what a month of these quarters covers. The bounds of all three numbers keep the place small: it cannot wrap.
-pub(crate) fn spot_of(
-    quarters: Quarters,
-    class: u8,
-    direction: u8,
-    quarter: Quarter,
-) -> Option<Spot>
-    ensures { elim result [ Some spot ↦ (covered quarters.count class direction quarter.0 ≡ true) × (spot.line ≡ line_of class direction) × (spot.place ≡ place_of quarters.count class direction quarter.0) | None ↦ covered quarters.count class direction quarter.0 ≡ false ] }
+pub(crate) fn spot_of(quarters: Quarters, question: Question) -> Option<Spot>
+    ensures { elim result [ Some spot ↦ (covers quarters.count question ≡ true) × (spot.line ≡ line_of question.class question.direction) × (spot.place ≡ place_of quarters.count question.class question.direction question.quarter.0) | None ↦ covers quarters.count question ≡ false ] }
 {
-    if class < 1 || class > LAST_CLASS || direction >= DIRECTIONS || quarter.0 >= quarters.count() {
+    if !quarters.covers(question) {
         return None;
     }
-    let line = (class - 1) as usize * DIRECTIONS as usize + direction as usize;
+    let Question {
+        class,
+        direction,
+        quarter,
+    } = question;
+    let line = usize::from(class - 1) * usize::from(DIRECTIONS) + usize::from(direction);
     let place = line * quarters.count() as usize + quarter.0 as usize;
     Some(Spot { line, place })
-}
-
-// A slice may have any length: past its end there is no number.
-pub(crate) fn number_at(numbers: &[u32], place: usize) -> Option<u32>
-    ensures { result ≡ number_at numbers.now place }
-{
-    if place < numbers.len() {
-        Some(numbers[place])
-    } else {
-        None
-    }
 }

@@ -1,14 +1,14 @@
 // A table of fractions as a platform publishes it.
 ghost use Rattle.std.specs.Prelude.{◌≡◌};
-ghost use Rattle.profile.specs.Meanings.{Finds};
+ghost use Rattle.profile.specs.Meanings.{meant, Finds};
 ghost use Rattle.profile.specs.Sources.{published};
 ghost use Rattle.profile.specs.Laws.{published_lawful};
 
-use crate::place::{number_at, spot_of};
+use crate::place::spot_of;
 use crate::quarters::Quarters;
 use crate::source::ProfileSource;
 use allocation::Fraction;
-use fault::{Fault, Quarter};
+use fault::{Fault, Question};
 
 // A lent run of numbers: for each class and direction a fraction for every quarter.
 #[derive(Clone, Copy)]
@@ -26,11 +26,12 @@ impl<'a> PublishedTable<'a> {
         PublishedTable { quarters, numbers }
     }
 
-    fn find(&self, class: u8, direction: u8, quarter: Quarter) -> Option<Fraction>
-        ensures { Finds (published self.now.quarters.count self.now.numbers.now class direction quarter.0) result }
+    fn find(&self, question: Question) -> Option<Fraction>
+        ensures { Finds (meant (published self.now.quarters.count self.now.numbers.now) question) result }
     {
-        let spot = spot_of(self.quarters, class, direction, quarter)?;
-        Fraction::new(number_at(self.numbers, spot.place)?)
+        let spot = spot_of(self.quarters, question)?;
+        // a slice may have any length: past its end there is no number
+        Fraction::new(*self.numbers.get(spot.place)?)
     }
 }
 
@@ -45,8 +46,8 @@ impl<'a> ProfileSource for PublishedTable<'a> {
         self.quarters
     }
 
-    fn fraction(&self, class: u8, direction: u8, quarter: Quarter) -> Result<Fraction, Fault> {
-        self.find(class, direction, quarter)
-            .ok_or(Fault::FractionAbsent(class, direction, quarter))
+    fn fraction(&self, question: Question) -> Result<Fraction, Fault> {
+        // in reference.rt too: to say it once, the trait would ask every source for a second method
+        self.find(question).ok_or(Fault::FractionAbsent(question))
     }
 }

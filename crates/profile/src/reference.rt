@@ -1,18 +1,18 @@
 // Fractions worked out from a group of customers whose quarters are metered.
 ghost use Rattle.std.specs.Prelude.{◌≡◌, Some};
-ghost use Rattle.profile.specs.Meanings.{Finds};
+ghost use Rattle.profile.specs.Meanings.{meant, Finds};
 ghost use Rattle.profile.specs.Sources.{metered_fraction, reference};
 ghost use Rattle.profile.specs.Laws.{reference_lawful};
 
-use crate::place::{LINES, number_at, spot_of};
+use crate::place::{LINES, spot_of};
 use crate::quarters::Quarters;
 use crate::source::ProfileSource;
 use allocation::fraction::UNIT;
 use allocation::{Fraction, StandingSum};
-use fault::{Fault, Quarter};
+use fault::{Fault, Question};
 
-// The Wh that stand for a quarter that was not metered.
-pub const NOT_METERED: u32 = 4_294_967_295;
+// The Wh that stand for a quarter that was not metered: a number and no `Option`, since the memory is the caller's and holds plain numbers.
+pub const NOT_METERED: u32 = u32::MAX;
 
 // The sums of standard year volumes in kWh, offtake and feed-in of class 1 first, and a lent run of metered Wh.
 #[derive(Clone, Copy)]
@@ -36,12 +36,11 @@ impl<'a> ReferenceGroup<'a> {
         }
     }
 
-    fn find(&self, class: u8, direction: u8, quarter: Quarter) -> Option<Fraction>
-        ensures { Finds (reference self.now.quarters.count self.now.sums.now self.now.metered.now class direction quarter.0) result }
+    fn find(&self, question: Question) -> Option<Fraction>
+        ensures { Finds (meant (reference self.now.quarters.count self.now.sums.now self.now.metered.now) question) result }
     {
-        let spot = spot_of(self.quarters, class, direction, quarter)?;
-        let metered = number_at(self.metered, spot.place)?;
-        fraction_of(self.sums[spot.line], metered)
+        let spot = spot_of(self.quarters, question)?;
+        fraction_of(self.sums[spot.line], *self.metered.get(spot.place)?)
     }
 }
 
@@ -53,7 +52,7 @@ fn fraction_of(sum: u64, metered: u32) -> Option<Fraction>
     if sum == 0 || metered == NOT_METERED {
         return None;
     }
-    let parts = metered as u64 * UNIT / sum;
+    let parts = u64::from(metered) * UNIT / sum;
     Fraction::new(u32::try_from(parts).ok()?)
 }
 
@@ -68,8 +67,7 @@ impl<'a> ProfileSource for ReferenceGroup<'a> {
         self.quarters
     }
 
-    fn fraction(&self, class: u8, direction: u8, quarter: Quarter) -> Result<Fraction, Fault> {
-        self.find(class, direction, quarter)
-            .ok_or(Fault::FractionAbsent(class, direction, quarter))
+    fn fraction(&self, question: Question) -> Result<Fraction, Fault> {
+        self.find(question).ok_or(Fault::FractionAbsent(question))
     }
 }

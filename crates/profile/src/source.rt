@@ -4,7 +4,7 @@ ghost use Rattle.profile.specs.Meanings.{Meaning, Lawful, Answered};
 
 use crate::quarters::Quarters;
 use allocation::Fraction;
-use fault::{Fault, Quarter};
+use fault::{Fault, Question};
 
 // Whoever can say which fraction of a standard year volume falls into a quarter.
 // Code above is written for any source, and rests on what the source means alone.
@@ -20,9 +20,9 @@ pub trait ProfileSource {
         ensures count { result.count ≡ until self.now }
         ensures unchanged { self.exit.now ≡ self.entry.now };
 
-    // The one question: what the source means for this class, direction and quarter.
-    fn fraction(&self, class: u8, direction: u8, quarter: Quarter) -> Result<Fraction, Fault>
-        ensures answer { Answered (means self.now) class direction quarter result }
+    // The one question: what the source means for a class, a direction and a quarter.
+    fn fraction(&self, question: Question) -> Result<Fraction, Fault>
+        ensures answer { Answered (means self.now) question result }
         ensures unchanged { self.exit.now ≡ self.entry.now };
 
     // the law of every source

@@ -3,7 +3,7 @@ ghost use Rattle.std.specs.Prelude.{◌≡◌};
 ghost use Rattle.profile_demo.specs.Flat.{flat, flat_lawful};
 
 use allocation::Fraction;
-use fault::{Fault, Quarter};
+use fault::{Fault, Question};
 use profile::{ProfileSource, Quarters};
 
 // The same fraction for every class, direction and quarter of its month.
@@ -24,11 +24,11 @@ impl ProfileSource for Flat {
         self.quarters
     }
 
-    fn fraction(&self, class: u8, direction: u8, quarter: Quarter) -> Result<Fraction, Fault> {
-        if class >= 1 && class <= 16 && direction < 2 && quarter.0 < self.quarters.count() {
+    fn fraction(&self, question: Question) -> Result<Fraction, Fault> {
+        if self.quarters.covers(question) {
             Ok(self.fraction)
         } else {
-            Err(Fault::FractionAbsent(class, direction, quarter))
+            Err(Fault::FractionAbsent(question))
         }
     }
 }

@@ -1,15 +1,14 @@
 // Asks profile sources of every kind, one of them made here, and prints what they answer.
 #![tactic(auto)]
 
-ghost use Rattle.std.specs.Prelude.{◌≡◌, IfOk};
-ghost use Rattle.profile.specs.Meanings.{Answers};
+ghost use Rattle.profile.specs.Meanings.{meant, Answers};
 ghost use Rattle.fault.specs.declared.cause.Fault.TheVariants.{FractionAbsent};
 
 mod flat;
 
 use allocation::{Fraction, StandingSum};
-use anyhow::anyhow;
-use fault::{Fault, Quarter};
+use anyhow::Context;
+use fault::{Fault, Quarter, Question};
 use flat::Flat;
 use profile::reference::NOT_METERED;
 use profile::{
@@ -17,20 +16,19 @@ use profile::{
 };
 
 // The parts of the fraction that the source means.
-fn parts_by<S: ProfileSource>(
-    source: &S,
-    class: u8,
-    direction: u8,
-    quarter: Quarter,
-) -> Result<u32, Fault>
-    ensures { Answers (λ parts. parts) (S.ProfileSource.means source.now class direction quarter.0) (FractionAbsent class direction quarter) result }
+fn parts_by<S: ProfileSource>(source: &S, question: Question) -> Result<u32, Fault>
+    ensures { Answers (λ parts. parts) (meant (S.ProfileSource.means source.now) question) (FractionAbsent question) result }
 {
-    Ok(source.fraction(class, direction, quarter)?.parts())
+    Ok(source.fraction(question)?.parts())
 }
 
-// A class, a direction and a quarter.
-#[derive(Clone, Copy)]
-struct Question(u8, u8, u32);
+fn question(class: u8, direction: u8, quarter: u32) -> Question {
+    Question {
+        class,
+        direction,
+        quarter: Quarter(quarter),
+    }
+}
 
 fn ask<S: ProfileSource>(
     rt: &HostRuntime,
@@ -39,34 +37,18 @@ fn ask<S: ProfileSource>(
     questions: &[Question],
 ) -> anyhow::Result<()> {
     for question in questions {
-        let Question(class, direction, quarter) = *question;
-        match parts_by(source, class, direction, Quarter(quarter)) {
-            Ok(parts) => println!(rt;
-                "{name}: {parts} for class {class}, direction {direction}, quarter {quarter}"
-            )?,
+        match parts_by(source, *question) {
+            Ok(parts) => println!(rt; "{name}: {parts} for {question}")?,
             Err(fault) => println!(rt; "{name}: {fault}")?,
         }
     }
     Ok(())
 }
 
-fn quarters(count: u32) -> anyhow::Result<Quarters>
-    ensures { IfOk result (λ quarters. quarters.count ≡ count) }
-{
-    match Quarters::new(count) {
-        Some(quarters) => Ok(quarters),
-        None => Err(anyhow!("a month has at most 2980 quarters")),
-    }
-}
-
-fn fraction(parts: u32) -> anyhow::Result<Fraction>
-    ensures { IfOk result (λ fraction. fraction.parts ≡ parts) }
-{
-    match Fraction::new(parts) {
-        Some(fraction) => Ok(fraction),
-        None => Err(anyhow!("a fraction has at most 1000000 parts")),
-    }
-}
+// Why there is no month of so many quarters.
+const NO_MONTH: &str = "a month has at most 2980 quarters";
+// Why there is no fraction of so many parts.
+const NO_FRACTION: &str = "a fraction has at most 1000000 parts";
 
 // Four quarters: both directions of class 1, offtake of class 2, and feed-in of class 2, which breaks off.
 const NUMBERS: [u32; 14] = [
@@ -87,23 +69,23 @@ const NUMBERS: [u32; 14] = [
 ];
 
 fn published(rt: &HostRuntime) -> anyhow::Result<()> {
-    let table = PublishedTable::new(quarters(4)?, &NUMBERS);
+    let table = PublishedTable::new(Quarters::new(4).context(NO_MONTH)?, &NUMBERS);
     let questions = [
-        Question(1, 0, 0),
-        Question(1, 0, 3),
-        Question(1, 0, 4),
-        Question(1, 1, 0),
-        Question(1, 1, 1),
-        Question(1, 1, 2),
-        Question(1, 1, 3),
-        Question(1, 2, 0),
-        Question(2, 0, 0),
-        Question(2, 1, 1),
-        Question(2, 1, 2),
-        Question(0, 0, 0),
-        Question(17, 0, 0),
-        Question(16, 1, 3),
-        Question(255, 255, 4_294_967_295),
+        question(1, 0, 0),
+        question(1, 0, 3),
+        question(1, 0, 4),
+        question(1, 1, 0),
+        question(1, 1, 1),
+        question(1, 1, 2),
+        question(1, 1, 3),
+        question(1, 2, 0),
+        question(2, 0, 0),
+        question(2, 1, 1),
+        question(2, 1, 2),
+        question(0, 0, 0),
+        question(17, 0, 0),
+        question(16, 1, 3),
+        question(255, 255, 4_294_967_295),
     ];
     ask(rt, "published", &table, &questions)
 }
@@ -115,13 +97,13 @@ fn full(rt: &HostRuntime) -> anyhow::Result<()> {
     numbers[16] = 117;
     numbers[30] = 131;
     numbers[31] = 132;
-    let table = PublishedTable::new(quarters(1)?, &numbers);
+    let table = PublishedTable::new(Quarters::new(1).context(NO_MONTH)?, &numbers);
     let questions = [
-        Question(1, 0, 0),
-        Question(9, 0, 0),
-        Question(16, 0, 0),
-        Question(16, 1, 0),
-        Question(17, 0, 0),
+        question(1, 0, 0),
+        question(9, 0, 0),
+        question(16, 0, 0),
+        question(16, 1, 0),
+        question(17, 0, 0),
     ];
     ask(rt, "full", &table, &questions)
 }
@@ -134,40 +116,40 @@ fn reference(rt: &HostRuntime) -> anyhow::Result<()> {
     sums[4] = 1;
     sums[5] = 1;
     let metered = [10, 31, 4_294_967_294, NOT_METERED, 5, 5, 5, 0, 0, 10, 11];
-    let group = ReferenceGroup::new(quarters(2)?, &sums, &metered);
+    let group = ReferenceGroup::new(Quarters::new(2).context(NO_MONTH)?, &sums, &metered);
     let questions = [
-        Question(1, 0, 0),
-        Question(1, 0, 1),
-        Question(1, 1, 0),
-        Question(1, 1, 1),
-        Question(2, 0, 0),
-        Question(2, 1, 0),
-        Question(2, 1, 1),
-        Question(3, 0, 0),
-        Question(3, 0, 1),
-        Question(3, 1, 0),
-        Question(3, 1, 1),
-        Question(1, 0, 2),
-        Question(4, 0, 0),
+        question(1, 0, 0),
+        question(1, 0, 1),
+        question(1, 1, 0),
+        question(1, 1, 1),
+        question(2, 0, 0),
+        question(2, 1, 0),
+        question(2, 1, 1),
+        question(3, 0, 0),
+        question(3, 0, 1),
+        question(3, 1, 0),
+        question(3, 1, 1),
+        question(1, 0, 2),
+        question(4, 0, 0),
     ];
     ask(rt, "reference", &group, &questions)
 }
 
 // A table with holes over a flat profile of three quarters, then the same the other way round, over a source with nothing.
 fn layers(rt: &HostRuntime) -> anyhow::Result<()> {
-    let table = PublishedTable::new(quarters(4)?, &NUMBERS);
+    let table = PublishedTable::new(Quarters::new(4).context(NO_MONTH)?, &NUMBERS);
     let flat = Flat {
-        quarters: quarters(3)?,
-        fraction: fraction(77)?,
+        quarters: Quarters::new(3).context(NO_MONTH)?,
+        fraction: Fraction::new(77).context(NO_FRACTION)?,
     };
     let questions = [
-        Question(1, 1, 0),
-        Question(1, 1, 1),
-        Question(1, 1, 2),
-        Question(1, 0, 3),
-        Question(16, 1, 2),
-        Question(0, 0, 0),
-        Question(1, 2, 0),
+        question(1, 1, 0),
+        question(1, 1, 1),
+        question(1, 1, 2),
+        question(1, 0, 3),
+        question(16, 1, 2),
+        question(0, 0, 0),
+        question(1, 2, 0),
     ];
     ask(rt, "flat", &flat, &questions)?;
     ask(
@@ -182,7 +164,7 @@ fn layers(rt: &HostRuntime) -> anyhow::Result<()> {
         &Fallback::new(flat, table),
         &questions,
     )?;
-    let nothing = NoProfile::new(quarters(4)?);
+    let nothing = NoProfile::new(Quarters::new(4).context(NO_MONTH)?);
     ask(
         rt,
         "nothing, then table, then nothing",
@@ -191,21 +173,26 @@ fn layers(rt: &HostRuntime) -> anyhow::Result<()> {
     )
 }
 
+// A quarter that the source has, and one past its end.
+fn weigh<S: ProfileSource>(rt: &HostRuntime, source: &S, sum: StandingSum) -> anyhow::Result<()> {
+    for quarter in 0..2 {
+        match weight_by(source, question(1, 0, quarter), sum) {
+            Ok(weight) => println!(rt; "sum {} weighs {weight} in quarter {quarter}", sum.kwh())?,
+            Err(fault) => println!(rt; "sum {}: {fault}", sum.kwh())?,
+        }
+    }
+    Ok(())
+}
+
 // A group of one kWh less than half the unit weighs nothing at fraction 1, and one of half the unit weighs 1.
 fn weights(rt: &HostRuntime) -> anyhow::Result<()> {
     let source = Flat {
-        quarters: quarters(1)?,
-        fraction: fraction(1)?,
+        quarters: Quarters::new(1).context(NO_MONTH)?,
+        fraction: Fraction::new(1).context(NO_FRACTION)?,
     };
-    for sum in [0, 49_999, 50_000, 149_999, 150_000, 10_000_000_000] {
-        for quarter in 0..2 {
-            let Ok(standing) = StandingSum::new(sum) else {
-                continue;
-            };
-            match weight_by(&source, 1, 0, Quarter(quarter), standing) {
-                Ok(weight) => println!(rt; "sum {sum} weighs {weight} in quarter {quarter}")?,
-                Err(fault) => println!(rt; "sum {sum}: {fault}")?,
-            }
+    for kwh in [0, 49_999, 50_000, 149_999, 150_000, 10_000_000_000] {
+        if let Ok(sum) = StandingSum::new(kwh) {
+            weigh(rt, &source, sum)?;
         }
     }
     Ok(())

@@ -1,5 +1,7 @@
 pub mod Bounds
+pub mod Meaning
 pub mod Postings
 pub mod Rows
 pub mod Reports
+pub mod Texts
 pub mod Words

@@ -7,6 +7,7 @@ use Rattle.allocation.specs.declared.line.Posted.{Posted}
 use Rattle.quarter.specs.Bounds.{most_posted}
 use Rattle.quarter.specs.declared.input.Net.{Net}
 use Rattle.quarter.specs.declared.input.Net.TheVariants.{Exchange, Measured, Losses}
+use Rattle.quarter.specs.declared.input.Posting.{Posting}
 use Rattle.quarter.specs.declared.input.Postings.{Postings}
 use Rattle.quarter.specs.declared.input.Way.{Way}
 use Rattle.quarter.specs.declared.input.Way.TheVariants.{In, Out}
@@ -33,11 +34,15 @@ postings_refusal gross = cond (nat_lt most_posted gross) (Some (LimitPassed Post
 
 -- X, M and L
 abbrev pub nets : Postings → Posted
-nets p = record { exchange = p.exchange; measured = p.measured; losses = p.losses }
+nets p = p.nets
+
+-- the nets with one posting more
+abbrev pub with_posting : Posted → Posting → Posted
+with_posting n o =
+    let volume = signed o.way o.wh in
+    record { exchange = n.exchange +ℤ counts Exchange o.net volume; measured = n.measured +ℤ counts Measured o.net volume; losses = n.losses +ℤ counts Losses o.net volume }
 
 -- n is p with one posting more
-pub record Posts (p : Postings) (net : Net) (way : Way) (wh : ℕ) (n : Postings) : Type 0 where
-  pub exchange : n.exchange ≡ p.exchange +ℤ counts Exchange net (signed way wh)
-  pub measured : n.measured ≡ p.measured +ℤ counts Measured net (signed way wh)
-  pub losses : n.losses ≡ p.losses +ℤ counts Losses net (signed way wh)
-  pub gross : n.gross ≡ p.gross + wh
+pub record Posts (p : Postings) (o : Posting) (n : Postings) : Type 0 where
+  pub nets : n.nets ≡ with_posting p.nets o
+  pub gross : n.gross ≡ p.gross + o.wh

@@ -7,10 +7,10 @@ use Rattle.quarter.specs.declared.input.Row.{Row}
 
 -- by BRP, then supplier, then class
 abbrev pub before : Row → Row → Bool
-before a b = cond (a.brp == b.brp) (cond (a.supplier == b.supplier) (nat_lt a.class b.class) (nat_lt a.supplier b.supplier)) (nat_lt a.brp b.brp)
+before a b = cond (a.group.brp == b.group.brp) (cond (a.group.supplier == b.group.supplier) (nat_lt a.group.class b.group.class) (nat_lt a.group.supplier b.group.supplier)) (nat_lt a.group.brp b.group.brp)
 
 abbrev pub blank : Row
-blank = record { brp = 0; supplier = 0; class = 0; line = 0; offtake = 0; feed_in = 0 }
+blank = record { group = record { brp = 0; supplier = 0; class = 0 }; line = 0; offtake = 0; feed_in = 0 }
 
 -- each row comes before the next, so no group is there twice
 abbrev pub Rising : List Row → Type 0

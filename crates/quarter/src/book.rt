@@ -1,6 +1,7 @@
 // A quarter's text, read, divided and reported.
-ghost use Rattle.std.specs.Prelude.{◌≡◌, ℕ, ◌+◌, ◌<◌, true, List, length, IfOk, Ok, Err, OnOk};
-ghost use Rattle.quarter.specs.Reports.{Booked, Noted, Of};
+ghost use Rattle.std.specs.Prelude.{◌≡◌, ◌+◌, ◌^◌, ◌<◌, IfOk, MatchResult};
+ghost use Rattle.quarter.specs.Meaning.{at_line, described, with_item, with_line};
+ghost use Rattle.quarter.specs.Reports.{read_so_far, Answers, Booked, Breaks, Divided, Holds, Reports, Stops};
 ghost use Rattle.quarter.specs.Rows.{before, Rising, line_of};
 
 use crate::input::{Input, Item, Postings, Row};
@@ -11,70 +12,68 @@ use allocation::{Share, allocate};
 use fault::{Direction, Quarter};
 use std::alloc::{AllocError, Global};
 
-// Takes in what one line says.
-fn note(input: &mut Input, item: Item) -> Result<(), Stop>
-    ensures { OnOk result (Noted input.old item input.new) }
+// Takes in what the last line read says.
+fn note(input: &mut Input, item: Option<Item>) -> Result<(), Stop>
+    ensures answer { Answers (at_line input.old.lines (with_item (read_so_far input.old) item)) result (λ _. read_so_far input.new) }
+    ensures count { input.new.lines ≡ input.old.lines }
 {
     match item {
-        Item::Nothing => Ok(()),
-        Item::Posting(net, way, wh) => match input.postings.with(net, way, wh) {
-            Ok(postings) => {
-                input.postings = postings;
-                Ok(())
-            }
-            Err(fault) => Err(Stop::Refused(Refusal {
-                line: input.lines,
-                reason: Reason::Quarter(fault),
-            })),
-        },
-        Item::Group(row) => {
+        None => Ok(()),
+        Some(Item::Posting(posting)) => {
+            input.postings = input
+                .postings
+                .with(posting)
+                .map_err(|fault| Reason::Quarter(fault).at(input.lines))?;
+            Ok(())
+        }
+        Some(Item::Group(row)) => {
             input.rows.push(row)?;
             Ok(())
         }
     }
 }
 
+// Takes in one line more.
+fn take_line(heap: Global, input: &mut Input, line: &str) -> Result<(), Stop>
+    requires { input.old.lines + 1 < 2 ^ 64 }
+    ensures answer { Answers (with_line (input.old.lines + 1) (read_so_far input.old) line.now) result (λ _. read_so_far input.new) }
+    ensures count { input.new.lines ≡ input.old.lines + 1 }
+{
+    input.lines += 1;
+    let item = parse(heap, input.lines, line)?;
+    note(input, item)
+}
+
 // The whole text.
-fn read(heap: Global, text: &str) -> Result<Input, Stop> {
+fn read(heap: Global, text: &str) -> Result<Input, Stop>
+    ensures { MatchResult result (Holds text.now) (Stops (described text.now)) }
+{
     let mut input = Input {
         postings: Postings::none(),
         rows: Vec::new(heap),
         lines: 0,
     };
     for line in text.lines() {
-        input.lines = input.lines.saturating_add(1);
-        let item = parse(heap, input.lines, line)?;
-        note(&mut input, item)?;
+        take_line(heap, &mut input, line)?;
     }
     Ok(input)
 }
 
-// Whether one row's group comes before another's.
-fn comes_before(a: Row, b: Row) -> bool
-    ensures { result ≡ before a b }
+// Whether one row's group comes before another's. It has a contract of its own, which says what the derived order of groups is.
+fn comes_before(a: &Row, b: &Row) -> bool
+    ensures { result ≡ before a.now b.now }
 {
-    if a.brp != b.brp {
-        return a.brp < b.brp;
-    }
-    if a.supplier != b.supplier {
-        return a.supplier < b.supplier;
-    }
-    a.class < b.class
+    a.group < b.group
 }
 
 // Sorted rows rise, unless one group is there twice.
 fn check_rising(rows: &[Row]) -> Result<(), Refusal>
-    ensures { elim result [ Ok _ ↦ Rising rows.now | Err e ↦ Unit {0} ] }
+    ensures { MatchResult result (λ _. Rising rows.now) (λ e. Breaks rows.now e) }
 {
-    for i in 1..rows.len() {
-        if !comes_before(rows[i - 1], rows[i]) {
-            return Err(Refusal {
-                line: rows[i].line,
-                reason: Reason::GroupTwice,
-            });
-        }
+    match rows.array_windows::<2>().find(|[a, b]| !comes_before(a, b)) {
+        Some([_, later]) => Err(Reason::GroupTwice.at(later.line)),
+        None => Ok(()),
     }
-    Ok(())
 }
 
 // The line of the rows' weights.
@@ -91,8 +90,7 @@ fn line_of(heap: Global, rows: &[Row]) -> Result<Vec<Share>, AllocError>
 
 // Divides what was read.
 fn report_of(heap: Global, input: Input) -> Result<Report, Stop>
-    ensures booked { IfOk result Booked }
-    ensures whole { IfOk result (Of input) }
+    ensures { Divided input.lines (read_so_far input) result }
 {
     let Input {
         postings,
@@ -102,23 +100,21 @@ fn report_of(heap: Global, input: Input) -> Result<Report, Stop>
     rows.sort_unstable();
     check_rising(rows.as_slice())?;
     let mut line = line_of(heap, rows.as_slice())?;
-    match allocate(line.as_mut_slice(), postings.nets(), Quarter(0)) {
-        Ok(allocated) => Ok(Report {
-            postings,
-            rows,
-            line,
-            allocated,
-        }),
-        Err(fault) => Err(Stop::Refused(Refusal {
-            line: lines,
-            reason: Reason::Quarter(fault),
-        })),
-    }
+    let allocated = allocate(line.as_mut_slice(), postings.nets(), Quarter(0)).map_err(
+        |fault| Reason::Quarter(fault).at(lines),
+    )?;
+    Ok(Report {
+        postings,
+        rows,
+        line,
+        allocated,
+    })
 }
 
 // Books the quarter that a text describes.
 pub fn book(heap: Global, text: &str) -> Result<Report, Stop>
-    ensures { IfOk result Booked }
+    ensures booked { IfOk result Booked }
+    ensures told { Reports text.now result }
 {
     report_of(heap, read(heap, text)?)
 }

@@ -2,6 +2,8 @@
 ghost use Rattle.std.specs.Prelude.{◌+◌, ◌≤◌, unsigned_abs};
 ghost use Rattle.quarter.specs.Bounds.{most_posted};
 
+use allocation::Posted;
+
 // What a posting counts in.
 #[derive(Clone, Copy)]
 pub enum Net {
@@ -11,40 +13,52 @@ pub enum Net {
 }
 
 // Which way a posting goes: into the area, as feed-in does, or out of it, as offtake does.
+// fault's `Direction` is that of a connection, and an exchange with another grid has none: what goes out there is no offtake.
 #[derive(Clone, Copy)]
 pub enum Way {
     In,
     Out,
 }
 
-// The nets of all postings in Wh, in positive, and all their watt-hours together.
+// So many watt-hours, in a net and a way.
 #[derive(Clone, Copy)]
-pub struct Postings {
-    pub exchange: i64,
-    pub measured: i64,
-    pub losses: i64,
-    pub gross: u64,
-    ghost few: { gross ≤ most_posted },
-    ghost within: { unsigned_abs exchange + unsigned_abs measured + unsigned_abs losses ≤ gross },
+pub struct Posting {
+    pub net: Net,
+    pub way: Way,
+    pub wh: u64,
 }
 
-// A profiled group with its weights in Wh, and the line that gave it. Rows compare by BRP, supplier and class first.
+// The nets of all postings, and all their watt-hours together.
+#[derive(Clone, Copy)]
+pub struct Postings {
+    pub nets: Posted,
+    pub gross: u64,
+    ghost few: { gross ≤ most_posted },
+    ghost within: { unsigned_abs nets.exchange + unsigned_abs nets.measured + unsigned_abs nets.losses ≤ gross },
+}
+
+// A profiled group. Groups compare by BRP, then supplier, then class.
+// The numbers are as wide as they are read, and not as the groups of `rows` have them: a program that reads a text does not depend on the book's rows.
 #[derive(Clone, Copy, PartialEq, Eq, PartialOrd, Ord)]
-pub struct Row {
+pub struct Group {
     pub brp: u64,
     pub supplier: u64,
     pub class: u64,
+}
+
+// A group with its weights in Wh, and the line that gave it. Rows compare by group first, then by line.
+#[derive(Clone, Copy, PartialEq, Eq, PartialOrd, Ord)]
+pub struct Row {
+    pub group: Group,
     pub line: usize,
     pub offtake: u64,
     pub feed_in: u64,
 }
 
-// What one line says.
+// What a line says that is neither blank nor a comment.
 #[derive(Clone, Copy)]
 pub enum Item {
-    // a blank line or a comment
-    Nothing,
-    Posting(Net, Way, u64),
+    Posting(Posting),
     Group(Row),
 }
 

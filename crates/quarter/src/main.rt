@@ -9,14 +9,13 @@ mod refusal;
 mod report;
 mod show;
 
-use book::book as book_text;
 use std::io;
 use std::process::ExitCode;
 
-fn run(rt: &HostRuntime) -> io::Result<ExitCode> {
+fn main(rt: HostRuntime) -> io::Result<ExitCode> {
     let heap = rt.alloc();
     let text = io::read_to_string(heap, rt.stdin())?;
-    match book_text(heap, text.as_str()) {
+    match book::book(heap, text.as_str()) {
         Ok(report) => {
             print!(rt; "{report}")?;
             Ok(ExitCode::SUCCESS)
@@ -26,8 +25,4 @@ fn run(rt: &HostRuntime) -> io::Result<ExitCode> {
             Ok(ExitCode::FAILURE)
         }
     }
-}
-
-fn main(rt: HostRuntime) -> io::Result<ExitCode> {
-    run(&rt)
 }

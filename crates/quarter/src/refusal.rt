@@ -1,4 +1,7 @@
 // Why a text is refused.
+ghost use Rattle.std.specs.Prelude.{◌≡◌};
+ghost use Rattle.quarter.specs.declared.refusal.Stop.TheVariants.{Refused, Memory};
+
 use fault::Fault;
 use std::alloc::{AllocError, AllocFailed};
 use std::fmt;
@@ -33,19 +36,34 @@ pub enum Stop {
     Memory,
 }
 
+impl Reason {
+    // The refusal of a line for this reason.
+    pub fn at(self, line: usize) -> Refusal
+        ensures { result ≡ record { line = line; reason = self } }
+    {
+        Refusal { line, reason: self }
+    }
+}
+
 impl From<Refusal> for Stop {
+    ghost from_gives = { λ refusal stop. stop ≡ Refused refusal };
+
     fn from(refusal: Refusal) -> Stop {
         Stop::Refused(refusal)
     }
 }
 
 impl From<AllocError> for Stop {
+    ghost from_gives = { λ _ stop. stop ≡ Memory };
+
     fn from(_e: AllocError) -> Stop {
         Stop::Memory
     }
 }
 
 impl<T: Drop> From<AllocFailed<T>> for Stop {
+    ghost from_gives = { λ _ stop. stop ≡ Memory };
+
     fn from(_e: AllocFailed<T>) -> Stop {
         Stop::Memory
     }
@@ -53,28 +71,21 @@ impl<T: Drop> From<AllocFailed<T>> for Stop {
 
 impl fmt::Display for Reason {
     fn fmt<W: fmt::Write>(&self, f: &mut fmt::Formatter<W>) -> fmt::Result {
-        match *self {
+        match self {
             Reason::UnknownWord => write!(f, "unknown word"),
             Reason::WrongForm => write!(f, "these words make no line of this kind"),
-            Reason::NotANumber(word) => write!(f, "word {word} is no whole number"),
-            Reason::OutOfRange(word) => write!(f, "word {word} is out of range"),
+            Reason::NotANumber(place) => write!(f, "word {place} is no whole number"),
+            Reason::OutOfRange(place) => write!(f, "word {place} is out of range"),
             Reason::GroupTwice => write!(f, "this group was given on an earlier line"),
-            Reason::Quarter(fault) => {
-                let number = fault.notice().number;
-                write!(f, "{fault} (refusal {number})")
-            }
+            Reason::Quarter(fault) => write!(f, "{fault} (refusal {})", fault.notice().number),
         }
     }
 }
 
 impl fmt::Display for Stop {
     fn fmt<W: fmt::Write>(&self, f: &mut fmt::Formatter<W>) -> fmt::Result {
-        match *self {
-            Stop::Refused(refusal) => {
-                let line = refusal.line;
-                let reason = refusal.reason;
-                write!(f, "line {line}: {reason}")
-            }
+        match self {
+            Stop::Refused(Refusal { line, reason }) => write!(f, "line {line}: {reason}"),
             Stop::Memory => write!(f, "out of memory"),
         }
     }

@@ -1,8 +1,7 @@
 // A report as a table that is read at a glance.
-use crate::input::Row;
+use crate::input::Group;
 use crate::report::Report;
 use allocation::{Share, Split};
-use fault::Direction;
 use std::fmt;
 
 // The correction factor RCF = (T - R) / T, to four places.
@@ -11,58 +10,46 @@ struct Factor(Split);
 
 impl fmt::Display for Factor {
     fn fmt<W: fmt::Write>(&self, f: &mut fmt::Formatter<W>) -> fmt::Result {
-        let total = self.0.total();
+        let total = i128::from(self.0.total());
         if total == 0 {
             return write!(f, "none, since there are no weights");
         }
-        let above = total as i64 - self.0.residual();
-        let scaled = (above.unsigned_abs() * 10_000 + total / 2) / total;
-        let whole = scaled / 10_000;
-        let parts = scaled % 10_000;
+        let above = total - i128::from(self.0.residual());
+        let scaled = (above.abs() * 10_000 + total / 2) / total;
         let sign = if above < 0 { "-" } else { "" };
-        write!(f, "{above} / {total} = {sign}{whole}.{parts:04}")
+        write!(
+            f,
+            "{above} / {total} = {sign}{}.{:04}",
+            scaled / 10_000,
+            scaled % 10_000
+        )
     }
 }
 
 // One direction of one group.
-fn write_share<W: fmt::Write>(f: &mut fmt::Formatter<W>, row: &Row, share: &Share) -> fmt::Result {
-    let brp = row.brp;
-    let supplier = row.supplier;
-    let class = row.class;
-    let direction = match share.direction {
-        Direction::Offtake => "offtake",
-        Direction::FeedIn => "feed-in",
-    };
-    let weight = share.weight;
-    let correction = share.correction;
-    let volume = share.volume;
+fn write_share<W: fmt::Write>(
+    f: &mut fmt::Formatter<W>,
+    group: Group,
+    share: &Share,
+) -> fmt::Result {
     writeln!(
         f,
-        "{brp:>5} {supplier:>8} {class:>5}  {direction}  {weight:>15} {correction:>13} {volume:>13}"
+        "{:>5} {:>8} {:>5}  {}  {:>15} {:>13} {:>13}",
+        group.brp,
+        group.supplier,
+        group.class,
+        share.direction,
+        share.weight,
+        share.correction,
+        share.volume
     )
-}
-
-// Two shares to a row.
-fn write_line<W: fmt::Write>(
-    f: &mut fmt::Formatter<W>,
-    rows: &[Row],
-    line: &[Share],
-) -> fmt::Result {
-    for (i, share) in line.iter().enumerate() {
-        if let Some(row) = rows.get(i / 2) {
-            write_share(f, row, share)?;
-        }
-    }
-    Ok(())
 }
 
 // All volumes of the line; no line is long enough to saturate it.
 fn all_volumes(line: &[Share]) -> i128 {
-    let mut sum = 0i128;
-    for share in line {
-        sum = sum.saturating_add(share.volume as i128);
-    }
-    sum
+    line.iter().fold(0, |sum: i128, share| {
+        sum.saturating_add(i128::from(share.volume))
+    })
 }
 
 impl fmt::Display for Report {
@@ -80,34 +67,37 @@ impl fmt::Display for Report {
             f,
             "  BRP supplier class  direction        weight    correction     allocated"
         )?;
-        write_line(f, self.rows.as_slice(), self.line.as_slice())?;
+        write_line(f, self)?;
         writeln!(f, "")?;
         write_totals(f, self)
     }
 }
 
+// Two shares to a row.
+fn write_line<W: fmt::Write>(f: &mut fmt::Formatter<W>, report: &Report) -> fmt::Result {
+    for (row, shares) in report.rows.iter().zip(report.line.chunks(2)) {
+        for share in shares {
+            write_share(f, row.group, share)?;
+        }
+    }
+    Ok(())
+}
+
 // The quarter's figures and its closing.
 fn write_totals<W: fmt::Write>(f: &mut fmt::Formatter<W>, report: &Report) -> fmt::Result {
     let posted = report.postings.nets();
-    let exchange = posted.exchange;
-    let measured = posted.measured;
-    let losses = posted.losses;
     let split = report.allocated.split;
-    let total = split.total();
-    let net = report.allocated.net;
-    let residual = split.residual();
-    let factor = Factor(split);
     let allocated = all_volumes(report.line.as_slice());
     let left = allocated
-        .saturating_add(exchange as i128)
-        .saturating_add(measured as i128)
-        .saturating_add(losses as i128);
-    writeln!(f, "X    exchange            {exchange:>14}")?;
-    writeln!(f, "M    measured            {measured:>14}")?;
-    writeln!(f, "L    losses              {losses:>14}")?;
-    writeln!(f, "T    weights             {total:>14}")?;
-    writeln!(f, "V    weights, net        {net:>14}")?;
-    writeln!(f, "R    residual            {residual:>14}")?;
-    writeln!(f, "RCF  correction factor   {factor}")?;
+        .saturating_add(i128::from(posted.exchange))
+        .saturating_add(i128::from(posted.measured))
+        .saturating_add(i128::from(posted.losses));
+    writeln!(f, "X    exchange            {:>14}", posted.exchange)?;
+    writeln!(f, "M    measured            {:>14}", posted.measured)?;
+    writeln!(f, "L    losses              {:>14}", posted.losses)?;
+    writeln!(f, "T    weights             {:>14}", split.total())?;
+    writeln!(f, "V    weights, net        {:>14}", report.allocated.net)?;
+    writeln!(f, "R    residual            {:>14}", split.residual())?;
+    writeln!(f, "RCF  correction factor   {}", Factor(split))?;
     writeln!(f, "closing: X + M + L + allocated ({allocated}) = {left}")
 }

@@ -51,11 +51,10 @@ room w n b hw hn hb =
     omega arith
 
 -- one byte more is read
-pub turn : (part : List ℕ) (i n : ℕ) → i < length part → get_or part i 0 < 256 → take i part ≡ big i n → n < 256 ^ i → (take (i + 1) part ≡ big (i + 1) (n * 256 + get_or part i 0)) × (n * 256 + get_or part i 0 < 256 ^ (i + 1))
-turn part i n hi hb e hn =
-    let b : ℕ = get_or part i 0 in
+pub turn : (part : List ℕ) (i n b : ℕ) → i < length part → b ≡ get_or part i 0 → b < 256 → take i part ≡ big i n → n < 256 ^ i → (take (i + 1) part ≡ big (i + 1) (n * 256 + b)) × (n * 256 + b < 256 ^ (i + 1))
+turn part i n b hi is hb e hn =
     let one : i + 1 ≡ suc i = add-one i in (
-      take_more part i 0 hi ∙ ap (λ xs. xs ++ (b ∷ [])) e ∙ sym (big_push i n b hb) ∙ ap (λ w. big w (n * 256 + b)) (sym one),
+      take_more part i 0 hi ∙ (λ j. e j ++ (sym is j ∷ [])) ∙ sym (big_push i n b hb) ∙ ap (λ w. big w (n * 256 + b)) (sym one),
       subst (λ w. n * 256 + b < 256 ^ w) (sym one) (below_push i n b hn hb),
     )
 

@@ -1,5 +1,5 @@
 -- Entries are read as they were written. Assumes nothing.
-use Rattle.std.proofs.Common.{◌≡◌, ℕ, ◌+◌, List, [], ◌∷◌, ◌++◌, get_or, ℤ, pos, Some, None, Ok, Err, Option, sym, refl, ap, ◌∙◌, arith}
+use Rattle.std.proofs.Common.{◌≡◌, ℕ, List, [], ◌∷◌, ◌++◌, get_or, ℤ, pos, Some, None, Ok, Err, Option, sym, refl, ap, ◌∙◌, arith}
 use Rattle.std.specs.List.{AllByRecursion}
 use Rattle.fault.specs.declared.cause.BytePlace.{BytePlace}
 use Rattle.fault.specs.declared.cause.Fault.{Fault}
@@ -10,8 +10,8 @@ use Rattle.record.specs.declared.kind.EntryKind.{EntryKind}
 use Rattle.record.specs.declared.kind.EntryKind.TheVariants as kinds
 use Rattle.record.specs.declared.entry.Entry.{Entry}
 use Rattle.record.specs.declared.entry.Entry.TheVariants.{Begin, Enrol, Read, Switch, Leave, Open, Post, Weigh, PutBack, Divide, Withdraw, Settle}
-use Rattle.record.proofs.Registers.{count, four_are}
-use Rattle.record.proofs.FamilyLaws.{Lawful, same_record, nothing_lacks, some_byte}
+use Rattle.record.proofs.Registers.{count, four_are, four_from}
+use Rattle.record.proofs.FamilyLaws.{Lawful, same_record, nothing_lacks, some_byte, first_of_run}
 
 found : (k : EntryKind) → entry_kind (entry_number k) ≡ Some k
 found kinds.Begin = refl
@@ -27,14 +27,11 @@ found kinds.Divide = refl
 found kinds.Withdraw = refl
 found kinds.Settle = refl
 
-abbrev counts : List ℤ → ℕ → List ℕ
-counts zs n = count zs n ∷ count zs (n + 1) ∷ count zs (n + 2) ∷ count zs (n + 3) ∷ []
-
 -- the entry of a kind with these values
 make : EntryKind → List ℤ → Entry
 make kinds.Begin zs = Begin (count zs 0) (count zs 1)
-make kinds.Enrol zs = Enrol (record { code = count zs 0; brp = count zs 1; supplier = count zs 2; class = count zs 3; digits = count zs 4; factor = count zs 5; volumes = counts zs 6; stands = counts zs 10 })
-make kinds.Read zs = Read (count zs 0) (counts zs 1)
+make kinds.Enrol zs = Enrol (record { code = count zs 0; brp = count zs 1; supplier = count zs 2; class = count zs 3; digits = count zs 4; factor = count zs 5; volumes = four_from count zs 6; stands = four_from count zs 10 })
+make kinds.Read zs = Read (count zs 0) (four_from count zs 1)
 make kinds.Switch zs = Switch (count zs 0) (count zs 1) (count zs 2)
 make kinds.Leave zs = Leave (count zs 0)
 make kinds.Open zs = Open (count zs 0) (get_or zs 1 (pos 0))
@@ -79,10 +76,7 @@ stream bytes place (Err f) h [] ws is =
 stream bytes place (Err f) h (e ∷ es) ws is = inverse bytes place (Err f) h e (run entries es) ws.0 is
 stream bytes place (Ok None) h [] ws is = refl
 stream bytes place (Ok None) h (e ∷ es) ws is = absurd (inverse bytes place (Ok None) h e (run entries es) ws.0 is)
-stream bytes place (Ok (Some p)) h [] ws is = absurd (some_byte entries p.0 p.1.now (sym h.split ∙ is))
-stream bytes place (Ok (Some p)) h (e ∷ es) ws is =
-    let first = inverse bytes place (Ok (Some p)) h e (run entries es) ws.0 is in
-    (es, ap (λ x. x ∷ es) (sym first.0), first.1)
+stream bytes place (Ok (Some p)) h es ws is = first_of_run lawful bytes p.1.now p.0 h es ws is
 
 -- which answer comes decides all that is promised
 pub reads_entry : (bytes : List ℕ) (place : BytePlace) (r : Answer) → Reading bytes place r → ReadsEntry bytes place r

@@ -1,13 +1,15 @@
 -- Records of a family are read as they were written, whatever its kinds and layouts. Assumes nothing.
-use Rattle.std.proofs.Common.{◌≡◌, ℕ, ◌+◌, ◌-◌, ◌<◌, ◌≤◌, Bool, true, false, ◌&&◌, eqb, ltb, leb, List, [], ◌∷◌, ◌++◌, length, get_or, take, drop, ℤ, is_some, Some, None, Option, sym, refl, ap, ◌∙◌, subst, ⊎_elim, arith}
+use Rattle.std.proofs.Common.{◌≡◌, ℕ, ◌+◌, ◌<◌, ◌≤◌, Bool, true, false, ◌&&◌, eqb, ltb, leb, List, [], ◌∷◌, ◌++◌, length, take, drop, ℤ, is_some, Some, None, Option, sym, refl, ap, ◌∙◌, subst, ⊎_elim, arith}
 use borrow.Author.Tests.{clash}
-use Rattle.std.proofs.lemmas.List.{append_assoc, length-append}
+use Rattle.std.specs.List.{AllByRecursion}
+use Rattle.std.proofs.lemmas.List.{append_assoc, length-append, take-append-drop}
 use Rattle.std.proofs.lemmas.Bool.{eqb-true, ltb-true, leb-true, lt-ltb, le-leb, le-ltb, and_from, cases_Bool, cond-true, cond-false, and_parts}
 use Rattle.record.specs.Number.{big}
 use Rattle.record.specs.Format.{Field, Fits, Reads, total, filled, encode, extent, all_fit, Written}
-use Rattle.record.specs.Family.{Family, numbered, fields, Puts, Writes, cut, bytes_of, Writable, Begins, lack, lack_behind}
+use Rattle.record.specs.Family.{Family, Parts, numbered, fields, Puts, Writes, bytes_of, Writable, Begins, lack, lack_behind, run}
+use Rattle.record.specs.declared.apart.Lack.TheVariants.{Cut}
 use Rattle.record.proofs.Fields.{length_encode, drop_over}
-use Rattle.record.proofs.Layouts.{Typed, fits_from, fits_all, same_field, same_values, length_filled, reads_fits, big_one, read_whole, taken_apart}
+use Rattle.record.proofs.Layouts.{Typed, fits_from, fits_all, same_field, same_values, length_filled, reads_fits, big_one, read_whole}
 
 -- every number is one byte
 abbrev pub one_byte : {K : Type 0} → (K → ℕ) → List K → Bool
@@ -45,6 +47,19 @@ module _ {K : Type 0} (number : K → ℕ) where
       (λ (t : eqb n (number j) ≡ false). numbered_small ks n k parts.1 (sym (cond-false (eqb n (number j)) (Some j) (numbered number ks n) t) ∙ e))
       (cases_Bool (eqb n (number j)))
 
+  -- bytes that are taken apart at their kind
+  pub apart : (ks : List K) (bytes behind body rest : List ℕ) (b n : ℕ) (k : K) → bytes ≡ b ∷ behind → numbered number ks b ≡ Some k → body ≡ take n behind → rest ≡ drop n behind → bytes ≡ number k ∷ (body ++ rest)
+  apart ks bytes behind body rest b n k is known front back =
+      let parts : behind ≡ body ++ rest = sym (take-append-drop n behind) ∙ (λ i. sym front i ++ sym back i) in
+      is ∙ (λ i. sym (numbered_has ks b k known) i ∷ parts i)
+
+-- a record that is read from its body
+pub read_body : {K R : Type 0} (F : Family K R) (body : List ℕ) (k : K) (r : R) → length body ≡ total (F.layout k) → F.kind r ≡ k → Reads body 0 (F.layout k) (F.values r) → F.Four r → (body ≡ encode (filled (F.layout k) (F.values r))) × Writable F r
+read_body F body k r size kind read four = (
+  read_whole body (F.layout k) (F.values r) size read,
+  record { fits = subst (λ j. Fits (F.layout j) (F.values r)) (sym kind) (reads_fits body 0 (F.layout k) (F.values r) read); four = four },
+)
+
 module _ {K R : Type 0} {F : Family K R} (law : Lawful F) where
   number_small : (k : K) → F.number k < 256
   number_small k = numbered_small F.number F.kinds (F.number k) k law.small (law.found k)
@@ -71,18 +86,20 @@ module _ {K R : Type 0} {F : Family K R} (law : Lawful F) where
       let long : length body ≡ total (F.layout k) = length_filled (F.layout k) (F.values r) w.fits in
       let more-long = length-append body more in
       ap (λ l. lack F ((l ++ body) ++ more)) (big_one (F.number k) (number_small k))
-      ∙ ap (λ o. lack_behind F o (length (body ++ more))) (law.found k)
-      ∙ cond-false (ltb (length (body ++ more)) (total (F.layout k))) (Some cut) None (le-ltb (length (body ++ more)) (total (F.layout k)) (omega arith))
+      ∙ ap (λ o. lack_behind F.number F.kinds F.layout o (length (body ++ more))) (law.found k)
+      ∙ cond-false (ltb (length (body ++ more)) (total (F.layout k))) (Some Cut) None (le-ltb (length (body ++ more)) (total (F.layout k)) (omega arith))
 
-  -- a kind, the body of a record of that kind and the rest
-  pub begins : (bytes body rest : List ℕ) (k : K) (r : R) → bytes ≡ F.number k ∷ (body ++ rest) → F.kind r ≡ k → body ≡ encode (filled (F.layout k) (F.values r)) → Writable F r → Begins F bytes r rest
-  begins bytes body rest k r split kind is writable = record {
-    split = split
-        ∙ ap (λ l. F.number k ∷ (l ++ rest)) is
-        ∙ ap (λ l. (l ++ encode (filled (F.layout k) (F.values r))) ++ rest) (sym (big_one (F.number k) (number_small k)))
-        ∙ ap (λ j. encode ((1, F.number j) ∷ filled (F.layout j) (F.values r)) ++ rest) (sym kind);
-    writable = writable;
-  }
+  -- the bytes begin with the record that is read from the body that was taken
+  pub begins : (bytes body rest : List ℕ) (k : K) (r : R) → Parts F.number F.layout bytes k body rest → F.kind r ≡ k → Reads body 0 (F.layout k) (F.values r) → F.Four r → Begins F bytes r rest
+  begins bytes body rest k r parts kind read four =
+      let whole = read_body F body k r parts.whole kind read four in
+      record {
+        split = parts.split
+            ∙ ap (λ l. F.number k ∷ (l ++ rest)) whole.0
+            ∙ ap (λ l. (l ++ encode (filled (F.layout k) (F.values r))) ++ rest) (sym (big_one (F.number k) (number_small k)))
+            ∙ ap (λ j. encode ((1, F.number j) ∷ filled (F.layout j) (F.values r)) ++ rest) (sym kind);
+        writable = whole.1;
+      }
 
   -- what was put into the memory keeps all promises of a writer
   pub writes : (r : R) (at : ℕ) (before after : List ℕ) (next : Option ℕ) → Puts F r at before after next → Writes F r at before after next
@@ -106,24 +123,24 @@ module _ {K R : Type 0} (F : Family K R) where
   unfolding big
   some_byte r more h = let z : ◌≡◌ {A = ℕ} 0 1 = cc in omega arith
 
-  -- bytes that are taken apart at their kind
-  pub apart : (bytes body rest : List ℕ) (n : ℕ) (k : K) → 0 < length bytes → numbered F.number F.kinds (get_or bytes 0 0) ≡ Some k → body ≡ take n (take (length bytes - 1) (drop 1 bytes)) → rest ≡ drop n (take (length bytes - 1) (drop 1 bytes)) → bytes ≡ F.number k ∷ (body ++ rest)
-  apart bytes body rest n k some known front back = taken_apart bytes body rest n some front back ∙ ap (λ b. b ∷ (body ++ rest)) (sym (numbered_has F.number F.kinds (get_or bytes 0 0) k known))
+  -- a record whose fields fit can be written
+  pub writable : (r : R) (fs : List Field) → fs ≡ fields F r → Typed (F.layout (F.kind r)) (F.values r) → F.Four r → all_fit fs ≡ true → Writable F r
+  writable r fs is typed four fit =
+      let all : all_fit (fields F r) ≡ true = ap all_fit (sym is) ∙ fit in
+      record { fits = fits_from (F.layout (F.kind r)) (F.values r) typed (and_parts (ltb (F.number (F.kind r)) 256) (all_fit (filled (F.layout (F.kind r)) (F.values r))) all).1; four = four }
 
-  -- a record that is read from its body
-  pub read_body : (body : List ℕ) (k : K) (r : R) → length body ≡ total (F.layout k) → F.kind r ≡ k → Reads body 0 (F.layout k) (F.values r) → F.Four r → (body ≡ encode (filled (F.layout k) (F.values r))) × Writable F r
-  read_body body k r size kind read four = (
-    read_whole body (F.layout k) (F.values r) size read,
-    record { fits = subst (λ j. Fits (F.layout j) (F.values r)) (sym kind) (reads_fits body 0 (F.layout k) (F.values r) read); four = four },
-  )
-
-  -- the fields of a record are written behind the number of its kind
-  pub puts : (r : R) (k at : ℕ) (before after : List ℕ) (next : Option ℕ) → k ≡ F.number (F.kind r) → Typed (F.layout (F.kind r)) (F.values r) → F.Four r → Written ((1, k) ∷ filled (F.layout (F.kind r)) (F.values r)) at before after next → Puts F r at before after next
-  puts r k at before after next is typed four h =
-      let body : List Field = filled (F.layout (F.kind r)) (F.values r) in
-      let told : Written (fields F r) at before after next = subst (λ n. Written ((1, n) ∷ body) at before after next) is h in
-      record { written = told; writable = λ done. record { fits = fits_from (F.layout (F.kind r)) (F.values r) typed (tested next done told); four = four } }
+  -- fields that were put into the memory, as those of the record that they are of
+  pub puts : (s r : R) → s ≡ r → (fs : List Field) (at : ℕ) (before after : List ℕ) (next : Option ℕ) → fs ≡ fields F r → (all_fit fs ≡ true → Writable F r) → Written fs at before after next → Puts F s at before after next
+  puts s r same fs at before after next is can_write told =
+      subst (λ x. Puts F x at before after next) (sym same) (record { written = subst (λ x. Written x at before after next) is told; writable = λ done. can_write (tested next done told) })
     where
-      tested : (o : Option ℕ) → is_some o ≡ true → Written (fields F r) at before after o → all_fit (filled (F.layout (F.kind r)) (F.values r)) ≡ true
+      tested : (o : Option ℕ) → is_some o ≡ true → Written fs at before after o → all_fit fs ≡ true
       tested None done h = absurd (clash done)
-      tested (Some n) done h = (and_parts (ltb (F.number (F.kind r)) 256) (all_fit (filled (F.layout (F.kind r)) (F.values r))) (and_parts (all_fit (fields F r)) (leb (at + extent (fields F r)) (length before)) h.0).0).1
+      tested (Some n) done h = (and_parts (all_fit fs) (leb (at + extent fs) (length before)) h.0).0
+
+-- the first of the records that the bytes are
+pub first_of_run : {K R : Type 0} {F : Family K R} → Lawful F → (bytes rest : List ℕ) (r : R) → Begins F bytes r rest → (rs : List R) → AllByRecursion (Writable F) rs → bytes ≡ run F rs → (others : List R) × (rs ≡ r ∷ others) × (rest ≡ run F others)
+first_of_run {F} law bytes rest r h [] ws is = absurd (some_byte F r rest (sym h.split ∙ is))
+first_of_run {F} law bytes rest r h (x ∷ xs) ws is =
+    let first = same_record law r x rest (run F xs) h.writable ws.0 (sym h.split ∙ is) in
+    (xs, ap (λ y. y ∷ xs) (sym first.0), first.1)

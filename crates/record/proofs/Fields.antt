@@ -1,12 +1,12 @@
 -- The laws of fields written one after the other. Assumes nothing.
-use Rattle.std.proofs.Common.{◌≡◌, ℕ, zero, suc, ◌+◌, ◌-◌, ◌*◌, ◌/◌, ◌%◌, ◌^◌, ◌<◌, ◌≤◌, ◌&&◌, eqb, ltb, List, [], ◌∷◌, ◌++◌, length, get_or, take, drop, sym, refl, ap, ◌∙◌, subst, ⊎_elim, pow-suc, mul-suc, div-one, arith, take_all, pow-add}
+use Rattle.std.proofs.Common.{◌≡◌, ℕ, zero, suc, ◌+◌, ◌-◌, ◌*◌, ◌/◌, ◌%◌, ◌^◌, ◌<◌, ◌≤◌, eqb, ltb, List, [], ◌∷◌, ◌++◌, length, get_or, take, drop, sym, refl, ap, ◌∙◌, ⊎_elim, pow-suc, mul-suc, div-one, arith, take_all, pow-add}
 use native.Mathlib.Nat.{div-eq_of_lt}
 use borrow.Rule.Slice.PartMut.{put_mid}
 use Rattle.std.proofs.lemmas.Nat.{le-div}
 use Rattle.std.proofs.lemmas.Bool.{eq-eqb, ne_eqb, lt-ltb, le-ltb, cases_lt}
-use Rattle.std.proofs.lemmas.List.{append_assoc, length-append, length-take, length-take-le, take_at, drop_at, drop-drop, take-append-drop, drop_more, at_drop_more}
+use Rattle.std.proofs.lemmas.List.{append_assoc, length-append, length-take, length-take-le, take_at, drop_at, drop-drop, take-append-drop, drop_more}
 use Rattle.record.specs.Number.{big}
-use Rattle.record.specs.Format.{Field, over, encode, extent, all_fit, Narrow}
+use Rattle.record.specs.Format.{Field, over, encode, extent}
 use Rattle.record.proofs.Big.{length_big, pow_pos, big_drop}
 
 pub bytes_pow : (w : ℕ) → 2 ^ (8 * w) ≡ 256 ^ w
@@ -53,27 +53,20 @@ over_over xs at next ys zs is h =
     ∙ ap (λ l. take at xs ++ l) (sym (append_assoc ys zs (drop (at + length (ys ++ zs)) xs)))
 
 -- one field more of those that are left
-pub fit_more : (fs : List Field) (i : ℕ) → i < length fs → all_fit (drop i fs) ≡ (ltb (get_or fs i (0, 0)).1 (256 ^ (get_or fs i (0, 0)).0) && all_fit (drop (i + 1) fs))
-fit_more fs i h = at_drop_more all_fit fs i (0, 0) h
+pub left_more : (fs : List Field) (i : ℕ) (f : Field) → i < length fs → f ≡ get_or fs i f → drop i fs ≡ f ∷ drop (i + 1) fs
+left_more fs i f h is = drop_more fs i f h ∙ ap (λ g. g ∷ drop (i + 1) fs) (sym is)
 
-pub extent_more : (fs : List Field) (i : ℕ) → i < length fs → extent (drop i fs) ≡ (get_or fs i (0, 0)).0 + extent (drop (i + 1) fs)
-extent_more fs i h = at_drop_more extent fs i (0, 0) h
-
-pub encode_more : (fs : List Field) (i : ℕ) → i < length fs → encode (drop i fs) ≡ big (get_or fs i (0, 0)).0 (get_or fs i (0, 0)).1 ++ encode (drop (i + 1) fs)
-encode_more fs i h = at_drop_more encode fs i (0, 0) h
-
-pub narrow_more : (fs : List Field) (i : ℕ) → i < length fs → Narrow (drop i fs) → ((get_or fs i (0, 0)).0 ≤ 8) × Narrow (drop (i + 1) fs)
-narrow_more fs i h n = subst Narrow (drop_more fs i (0, 0) h) n
+pub extent_more : (fs : List Field) (i : ℕ) (f : Field) → i < length fs → f ≡ get_or fs i f → extent (drop i fs) ≡ f.0 + extent (drop (i + 1) fs)
+extent_more fs i f h is = ap extent (left_more fs i f h is)
 
 -- one field is written, and the rest is still to come
-pub put_more : (before out out' : List ℕ) (at place i : ℕ) (fs : List Field) → i < length fs → place + extent (drop i fs) ≤ length out → over out place (encode (drop i fs)) ≡ over before at (encode fs) → out' ≡ over out place (big (get_or fs i (0, 0)).0 (get_or fs i (0, 0)).1) → over out' (place + (get_or fs i (0, 0)).0) (encode (drop (i + 1) fs)) ≡ over before at (encode fs)
-put_more before out out' at place i fs h within e put =
-    let w : ℕ = (get_or fs i (0, 0)).0 in
-    let bytes : List ℕ = big w (get_or fs i (0, 0)).1 in
-    let size : length bytes ≡ w = length_big w (get_or fs i (0, 0)).1 in
-    ap (λ l. over l (place + w) (encode (drop (i + 1) fs))) put
-    ∙ over_over out place (place + w) bytes (encode (drop (i + 1) fs)) (omega arith) (omega (arith, extent_more fs i h))
-    ∙ ap (over out place) (sym (encode_more fs i h))
+pub put_more : (before out out' : List ℕ) (at place next i : ℕ) (fs : List Field) (f : Field) → i < length fs → f ≡ get_or fs i f → place + extent (drop i fs) ≤ length out → over out place (encode (drop i fs)) ≡ over before at (encode fs) → next ≡ place + f.0 → out' ≡ over out place (big f.0 f.1) → over out' next (encode (drop (i + 1) fs)) ≡ over before at (encode fs)
+put_more before out out' at place next i fs f h is within e behind put =
+    let bytes : List ℕ = big f.0 f.1 in
+    let size : length bytes ≡ f.0 = length_big f.0 f.1 in
+    ap (λ l. over l next (encode (drop (i + 1) fs))) put
+    ∙ over_over out place next bytes (encode (drop (i + 1) fs)) (omega arith) (omega (arith, extent_more fs i f h is))
+    ∙ ap (λ l. over out place (encode l)) (sym (left_more fs i f h is))
     ∙ e
 
 -- the bytes of 64 bits

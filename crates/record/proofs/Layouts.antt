@@ -1,7 +1,6 @@
 -- The laws of layouts: what is read from fields is what was written, for any layout. Assumes nothing.
-use Rattle.std.proofs.Common.{◌≡◌, ℕ, ◌+◌, ◌-◌, ◌^◌, ◌<◌, true, ltb, List, [], ◌∷◌, ◌++◌, length, get_or, take, drop, ℤ, pos, negsuc, sym, refl, ap, ◌∙◌, arith}
+use Rattle.std.proofs.Common.{◌≡◌, ℕ, ◌+◌, ◌^◌, ◌<◌, true, ltb, List, [], ◌∷◌, ◌++◌, length, take, drop, ℤ, pos, negsuc, sym, refl, ap, ◌∙◌, arith}
 use Rattle.std.proofs.lemmas.List.{append_assoc, append-nil, length-append, take-append-drop, drop-drop, take_at, drop_at, drop_all}
-use Rattle.std.proofs.lemmas.Slice.{first_rest}
 use Rattle.std.proofs.lemmas.Bool.{ltb-true, lt-ltb, and_parts, and_from}
 use Rattle.record.specs.Number.{big, twos, Within}
 use Rattle.record.specs.Format.{Form, unsigned, signed, width, total, bits, Fit, Fits, Reads, filled, encode, all_fit}
@@ -83,12 +82,6 @@ big_one n h = ap (λ x. x ∷ []) (omega arith)
 pub read_whole : (body : List ℕ) (fs : List Form) (zs : List ℤ) → length body ≡ total fs → Reads body 0 fs zs → body ≡ encode (filled fs zs)
 read_whole body fs zs size h =
     reads_split body 0 fs zs h ∙ ap (λ l. encode (filled fs zs) ++ l) (drop_all (0 + total fs) body (omega arith)) ∙ append-nil (encode (filled fs zs))
-
--- bytes are their first byte, as many behind it as are wanted, and the rest
-pub taken_apart : (bytes body rest : List ℕ) (n : ℕ) → 0 < length bytes → body ≡ take n (take (length bytes - 1) (drop 1 bytes)) → rest ≡ drop n (take (length bytes - 1) (drop 1 bytes)) → bytes ≡ get_or bytes 0 0 ∷ (body ++ rest)
-taken_apart bytes body rest n some front back =
-    let behind : List ℕ = take (length bytes - 1) (drop 1 bytes) in
-    first_rest bytes 0 some ∙ ap (λ l. get_or bytes 0 0 ∷ l) (sym (take-append-drop n behind) ∙ (λ i. sym front i ++ sym back i))
 
 -- as many values as fields, none of them negative where the field has no sign, or too large where it has one
 abbrev pub Typed : List Form → List ℤ → Type 0

@@ -1,5 +1,5 @@
 -- The records of a page are read as they were written. Assumes nothing.
-use Rattle.std.proofs.Common.{◌≡◌, ℕ, ◌+◌, List, [], ◌∷◌, ◌++◌, get_or, ℤ, pos, is_some, Some, None, sym, refl, ap, ◌∙◌}
+use Rattle.std.proofs.Common.{◌≡◌, ℕ, List, [], ◌∷◌, ◌++◌, get_or, ℤ, pos, is_some, Some, None, sym, refl, ap, ◌∙◌}
 use borrow.Author.Tests.{clash}
 use Rattle.std.specs.List.{AllByRecursion}
 use Rattle.record.specs.Family.{Writable, bytes_of, run, lack}
@@ -9,8 +9,8 @@ use Rattle.record.specs.declared.kind.PageKind.{PageKind}
 use Rattle.record.specs.declared.kind.PageKind.TheVariants as kinds
 use Rattle.record.specs.declared.page.PageRecord.{PageRecord}
 use Rattle.record.specs.declared.page.PageRecord.TheVariants.{Head, Group, Period, Register, Refusal}
-use Rattle.record.proofs.Registers.{count, four_are}
-use Rattle.record.proofs.FamilyLaws.{Lawful, same_record, nothing_lacks, some_byte}
+use Rattle.record.proofs.Registers.{count, four_are, four_from}
+use Rattle.record.proofs.FamilyLaws.{Lawful, same_record, nothing_lacks, first_of_run}
 
 found : (k : PageKind) → page_kind (page_number k) ≡ Some k
 found kinds.Head = refl
@@ -22,13 +22,10 @@ found kinds.Refusal = refl
 abbrev at : List ℤ → ℕ → ℤ
 at zs n = get_or zs n (pos 0)
 
-abbrev signed_at : List ℤ → ℕ → List ℤ
-signed_at zs n = at zs n ∷ at zs (n + 1) ∷ at zs (n + 2) ∷ at zs (n + 3) ∷ []
-
 -- the record of a kind with these values
 make : PageKind → List ℤ → PageRecord
 make kinds.Head zs = Head (count zs 0) (count zs 1) (count zs 2)
-make kinds.Group zs = Group (record { brp = count zs 0; supplier = count zs 1; class = count zs 2; month = signed_at zs 3; real = signed_at zs 7 })
+make kinds.Group zs = Group (record { brp = count zs 0; supplier = count zs 1; class = count zs 2; month = four_from at zs 3; real = four_from at zs 7 })
 make kinds.Period zs = Period (count zs 0) (at zs 1) (at zs 2) (at zs 3) (at zs 4) (at zs 5)
 make kinds.Register zs = Register (count zs 0) (count zs 1) (count zs 2) (count zs 3) (at zs 4) (at zs 5)
 make kinds.Refusal zs = Refusal (count zs 0) (count zs 1) (count zs 2) (count zs 3) (count zs 4)
@@ -51,10 +48,7 @@ inverse bytes (Some p) h r more w is = same_record lawful p.0 r p.1.now more h.w
 sequence : (bytes : List ℕ) (a : PageAnswer) → PageReading bytes a → (rs : List PageRecord) → AllByRecursion (Writable pages) rs → bytes ≡ run pages rs → PageFollows a rs
 sequence bytes None h [] ws is = refl
 sequence bytes None h (r ∷ rs) ws is = absurd (inverse bytes None h r (run pages rs) ws.0 is)
-sequence bytes (Some p) h [] ws is = absurd (some_byte pages p.0 p.1.now (sym h.split ∙ is))
-sequence bytes (Some p) h (r ∷ rs) ws is =
-    let first = inverse bytes (Some p) h r (run pages rs) ws.0 is in
-    (rs, ap (λ x. x ∷ rs) (sym first.0), first.1)
+sequence bytes (Some p) h rs ws is = first_of_run lawful bytes p.1.now p.0 h rs ws is
 
 -- which answer comes decides all that is promised
 pub reads_record : (bytes : List ℕ) (a : PageAnswer) → PageReading bytes a → ReadsRecord bytes a

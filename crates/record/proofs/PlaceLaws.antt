@@ -92,13 +92,13 @@ span_registers : (r : ℕ) → span (replicate r Register) ≡ 23 * r
 span_registers zero = refl
 span_registers (suc r) = omega (arith, span_registers r)
 
-pub register_stands : (rows row register : ℕ) → row < rows → register < 4 → Stands rows (2 + 5 * row + register) Register (79 + 162 * row + 23 * register)
+pub register_stands : (rows row register : ℕ) → row < rows → register < 4 → Stands rows (2 + 5 * row + register) Register (9 + 162 * row + 70 + 23 * register)
 register_stands rows row register h k =
     let behind : List PageKind = replicate register Register in
     let front : List PageKind = Head ∷ (groups row ++ (Group ∷ behind)) in
     let tail : List PageKind = groups (rows - row - 1) ++ (Period ∷ Period ∷ []) in
     let back : List PageKind = replicate (3 - register) Register ++ tail in
-    stands rows (2 + 5 * row + register) (79 + 162 * row + 23 * register) Register front back
+    stands rows (2 + 5 * row + register) (9 + 162 * row + 70 + 23 * register) Register front back
     (from_group rows row h ∙ ap (λ l. Head ∷ (groups row ++ (Group ∷ l))) (four_split register tail k) ∙ sym (ap (λ l. Head ∷ l) (append_assoc (groups row) (Group ∷ behind) (Register ∷ back))))
     (omega (arith, length-append (groups row) (Group ∷ behind), length_groups row, length-replicate register Register))
     (omega (arith, span_append (groups row) (Group ∷ behind), span_groups row, span_registers register))

@@ -1,12 +1,14 @@
 -- The entries of a stream as bytes. Assumes nothing.
-use Rattle.std.specs.Prelude.{◌≡◌, ℕ, List, [], ◌∷◌, ◌++◌, length, ℤ, pos, Some, None, Ok, Err, Option, Result, slice_index}
+use Rattle.std.specs.Prelude.{◌≡◌, ℕ, List, [], ◌∷◌, ◌++◌, length, ℤ, pos, Some, None, Ok, Err, Option, Result}
 use Rattle.std.specs.List.{AllByRecursion}
 use Rattle.std.specs.Borrow.{Bor}
 use Rattle.fault.specs.declared.cause.BytePlace.{BytePlace}
 use Rattle.fault.specs.declared.cause.Fault.{Fault}
 use Rattle.fault.specs.declared.cause.Fault.TheVariants.{UnknownKind, CutEntry}
-use Rattle.record.specs.Family.{Family, Writable, Begins, Lack, end, unknown, cut, lack, bytes_of, run}
-use Rattle.record.specs.Kinds.{entry_number, entry_kinds, entry_layout}
+use Rattle.record.specs.Family.{Family, Writable, Begins, lack, bytes_of, run}
+use Rattle.record.specs.Kinds.{entry_number, entry_kinds, entry_layout, four_of}
+use Rattle.record.specs.declared.apart.Lack.{Lack}
+use Rattle.record.specs.declared.apart.Lack.TheVariants.{End, Unknown, Cut}
 use Rattle.record.specs.declared.kind.EntryKind.{EntryKind}
 use Rattle.record.specs.declared.kind.EntryKind.TheVariants as kinds
 use Rattle.record.specs.declared.entry.Entry.{Entry}
@@ -28,7 +30,7 @@ kind_of Settle = kinds.Settle
 
 -- a number for each register
 abbrev pub four : List ℕ → List ℤ
-four xs = pos (slice_index xs 0) ∷ pos (slice_index xs 1) ∷ pos (slice_index xs 2) ∷ pos (slice_index xs 3) ∷ []
+four xs = four_of pos 0 xs
 
 -- the values of the fields, in the order of the layout
 abbrev pub entry_values : Entry → List ℤ
@@ -66,9 +68,9 @@ entries = record { number = entry_number; kinds = entry_kinds; layout = entry_la
 -- why an entry at this place is refused
 abbrev pub fault_of : BytePlace → Option Lack → Option Fault
 fault_of place None = None
-fault_of place (Some end) = None
-fault_of place (Some unknown) = Some (UnknownKind place)
-fault_of place (Some cut) = Some (CutEntry place)
+fault_of place (Some End) = None
+fault_of place (Some Unknown) = Some (UnknownKind place)
+fault_of place (Some Cut) = Some (CutEntry place)
 
 abbrev pub refusal : BytePlace → List ℕ → Option Fault
 refusal place bytes = fault_of place (lack entries bytes)

@@ -1,7 +1,11 @@
 -- A family of records: kinds, each with its number and its layout, and what stands in them. Assumes nothing.
-use Rattle.std.specs.Prelude.{◌≡◌, ℕ, ◌+◌, ◌≤◌, true, cond, List, [], ◌∷◌, ◌++◌, length, drop, ℤ, is_some, Some, None, Option, ◌==◌, nat_lt}
+use Rattle.std.specs.Prelude.{◌≡◌, ℕ, ◌+◌, ◌≤◌, true, cond, List, [], ◌∷◌, ◌++◌, length, drop, ℤ, is_some, Some, None, Ok, Err, Option, Result, ◌==◌, nat_lt, MatchResult}
+use Rattle.std.specs.Borrow.{Bor}
 use Rattle.std.specs.List.{flat_map}
 use Rattle.record.specs.Format.{Form, Field, Fits, total, filled, encode, extent, Written}
+use Rattle.record.specs.declared.apart.Lack.{Lack}
+use Rattle.record.specs.declared.apart.Lack.TheVariants.{End, Unknown, Cut}
+use Rattle.record.specs.declared.kind.NoKind.{NoKind}
 
 pub record Family (K R : Type 0) : Type 1 where
   -- the number of a kind
@@ -22,11 +26,30 @@ abbrev pub numbered : {K : Type 0} → (K → ℕ) → List K → ℕ → Option
 numbered number [] n = None
 numbered number (k ∷ ks) n = cond (n == number k) (Some k) (numbered number ks n)
 
--- why no record stands at the front of the bytes: there are none, nobody knows the first, or they end too early
-pub data Lack : Type 0 where
-  end : Lack
-  unknown : Lack
-  cut : Lack
+-- the kind that has the number n, or the number back where no kind has it
+abbrev pub OfNumber : {K : Type 0} → (K → ℕ) → List K → ℕ → Result K NoKind → Type 0
+OfNumber number kinds n r = MatchResult r (λ kind. numbered number kinds n ≡ Some kind) (λ other. (numbered number kinds n ≡ None) × (other.0 ≡ n))
+
+-- the bytes are a kind, its body and the rest
+pub record Parts {K : Type 0} (number : K → ℕ) (layout : K → List Form) (bytes : List ℕ) (k : K) (body rest : List ℕ) : Type 0 where
+  pub split : bytes ≡ number k ∷ (body ++ rest)
+  pub whole : length body ≡ total (layout k)
+
+module _ {K : Type 0} (number : K → ℕ) (kinds : List K) (layout : K → List Form) where
+  -- of the kind that the first byte says, and the count of the bytes behind it
+  abbrev pub lack_behind : Option K → ℕ → Option Lack
+  lack_behind None n = Some Unknown
+  lack_behind (Some k) n = cond (nat_lt n (total (layout k))) (Some Cut) None
+
+  -- why no record of these kinds stands at the front of the bytes
+  abbrev pub lack_of : List ℕ → Option Lack
+  lack_of [] = Some End
+  lack_of (b ∷ bs) = lack_behind (numbered number kinds b) (length bs)
+
+  -- the first record is taken apart, or it is said why there is none
+  abbrev pub TakesApart : List ℕ → Result (K × Bor (List ℕ) × Bor (List ℕ)) Lack → Type 0
+  TakesApart bytes (Err l) = lack_of bytes ≡ Some l
+  TakesApart bytes (Ok p) = Parts number layout bytes p.0 p.1.now p.2.now
 
 module _ {K R : Type 0} (F : Family K R) where
   -- what is written: the kind, then the body
@@ -65,11 +88,5 @@ module _ {K R : Type 0} (F : Family K R) where
     pub split : bytes ≡ bytes_of r ++ rest
     pub writable : Writable r
 
-  -- of the kind that the first byte says, and the count of the bytes behind it
-  abbrev pub lack_behind : Option K → ℕ → Option Lack
-  lack_behind None n = Some unknown
-  lack_behind (Some k) n = cond (nat_lt n (total (F.layout k))) (Some cut) None
-
   abbrev pub lack : List ℕ → Option Lack
-  lack [] = Some end
-  lack (b ∷ bs) = lack_behind (numbered F.number F.kinds b) (length bs)
+  lack bytes = lack_of F.number F.kinds F.layout bytes

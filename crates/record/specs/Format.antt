@@ -1,5 +1,5 @@
 -- A record as bytes: its fields in their order, each a number over a fixed count of bytes. Assumes nothing.
-use Rattle.std.specs.Prelude.{◌≡◌, ℕ, ◌+◌, ◌^◌, ◌<◌, ◌≤◌, Bool, true, false, ◌&&◌, List, [], ◌∷◌, ◌++◌, length, take, drop, ℤ, pos, negsuc, Some, None, Option, nat_le, nat_lt}
+use Rattle.std.specs.Prelude.{◌≡◌, ℕ, ◌+◌, ◌^◌, ◌<◌, Bool, true, false, ◌&&◌, List, [], ◌∷◌, ◌++◌, length, take, drop, ℤ, pos, negsuc, Some, None, Option, nat_le, nat_lt}
 use Rattle.std.specs.List.{flat_map}
 use Rattle.record.specs.Number.{big, twos, Within}
 
@@ -69,11 +69,6 @@ extent (f ∷ fs) = f.0 + extent fs
 abbrev pub all_fit : List Field → Bool
 all_fit [] = true
 all_fit (f ∷ fs) = nat_lt f.1 (256 ^ f.0) && all_fit fs
-
--- no field takes more than eight bytes
-abbrev pub Narrow : List Field → Type 0
-Narrow [] = Unit {0}
-Narrow (f ∷ fs) = (f.0 ≤ 8) × Narrow fs
 
 -- before, with bytes written over it from the place at on
 unfoldable pub over : List ℕ → ℕ → List ℕ → List ℕ

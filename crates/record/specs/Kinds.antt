@@ -1,5 +1,5 @@
 -- The kinds of records: their numbers and the layouts of their bodies. Assumes nothing.
-use Rattle.std.specs.Prelude.{ℕ, List, [], ◌∷◌, ◌++◌, Option}
+use Rattle.std.specs.Prelude.{ℕ, ℤ, List, [], ◌∷◌, ◌++◌, Option, slice_index_or}
 use Rattle.record.specs.Format.{Form, unsigned, signed}
 use Rattle.record.specs.Family.{numbered}
 use Rattle.record.specs.declared.kind.EntryKind.{EntryKind}
@@ -62,6 +62,10 @@ volume = signed 8
 -- one for each register
 abbrev pub each : Form → List Form
 each f = f ∷ f ∷ f ∷ f ∷ []
+
+-- the values of a list that has one for each register, whatever d is
+abbrev pub four_of : {X : Type 0} → (X → ℤ) → X → List X → List ℤ
+four_of value d xs = value (slice_index_or xs 0 d) ∷ value (slice_index_or xs 1 d) ∷ value (slice_index_or xs 2 d) ∷ value (slice_index_or xs 3 d) ∷ []
 
 abbrev pub entry_layout : EntryKind → List Form
 -- quarters, loss party

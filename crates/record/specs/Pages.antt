@@ -1,10 +1,10 @@
 -- The records of a page as bytes, and where each stands. Assumes nothing.
-use Rattle.std.specs.Prelude.{◌≡◌, ℕ, true, List, [], ◌∷◌, ◌++◌, length, ℤ, pos, is_some, Some, None, Option, slice_index_or}
+use Rattle.std.specs.Prelude.{◌≡◌, ℕ, true, List, [], ◌∷◌, ◌++◌, length, ℤ, pos, is_some, Some, None, Option}
 use Rattle.std.specs.Borrow.{Bor}
 use Rattle.std.specs.List.{AllByRecursion}
 use Rattle.record.specs.Format.{total, filled, encode}
-use Rattle.record.specs.Family.{Family, Writable, Begins, lack, bytes_of, run}
-use Rattle.record.specs.Kinds.{page_number, page_kinds, page_layout}
+use Rattle.record.specs.Family.{Family, Parts, Writable, Begins, lack, bytes_of, run}
+use Rattle.record.specs.Kinds.{page_number, page_kinds, page_layout, four_of}
 use Rattle.record.specs.declared.kind.PageKind.{PageKind}
 use Rattle.record.specs.declared.kind.PageKind.TheVariants as kinds
 use Rattle.record.specs.declared.page.Part.{Part}
@@ -20,7 +20,7 @@ page_kind_of (Refusal n l x y z) = kinds.Refusal
 
 -- a number for each register
 abbrev pub four_signed : List ℤ → List ℤ
-four_signed zs = slice_index_or zs 0 (pos 0) ∷ slice_index_or zs 1 (pos 0) ∷ slice_index_or zs 2 (pos 0) ∷ slice_index_or zs 3 (pos 0) ∷ []
+four_signed zs = four_of (λ z. z) (pos 0) zs
 
 -- the values of the fields, in the order of the layout
 abbrev pub page_values : PageRecord → List ℤ
@@ -53,9 +53,8 @@ FromBody kind body None = length body ≡ total (page_layout kind) → ⊥
 FromBody kind body (Some r) = Filled kind body r
 
 -- the bytes are a kind, its body and the rest
-pub record Apart (bytes : List ℕ) (p : Part) : Type 0 where
-  pub split : bytes ≡ page_number p.kind ∷ (p.body.now ++ p.rest.now)
-  pub whole : length p.body.now ≡ total (page_layout p.kind)
+abbrev pub Apart : List ℕ → Part → Type 0
+Apart bytes p = Parts page_number page_layout bytes p.kind p.body.now p.rest.now
 
 abbrev pub TakenApart : List ℕ → Option Part → Type 0
 TakenApart bytes None = is_some (lack pages bytes) ≡ true

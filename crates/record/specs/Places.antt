@@ -1,5 +1,5 @@
 -- Which records a page has, and where each stands. Assumes nothing.
-use Rattle.std.specs.Prelude.{◌≡◌, ℕ, zero, suc, ◌+◌, ◌<◌, List, [], ◌∷◌, ◌++◌, map, length, take, drop, slice_index_or}
+use Rattle.std.specs.Prelude.{◌≡◌, ℕ, zero, suc, ◌+◌, ◌*◌, ◌<◌, List, [], ◌∷◌, ◌++◌, map, length, take, drop, slice_index_or}
 use Rattle.std.specs.List.{AllByRecursion}
 use Rattle.record.specs.Format.{total}
 use Rattle.record.specs.Family.{Writable, run}
@@ -38,3 +38,11 @@ pub record Stands (rows i : ℕ) (kind : PageKind) (place : ℕ) : Type 0 where
   pub kind_is : slice_index_or (order rows) i Head ≡ kind
   pub place_is : place ≡ place_of rows i
   pub from_there : (rs : List PageRecord) → Page rows rs → drop place (run pages rs) ≡ run pages (drop i rs)
+
+-- this place is behind so many groups with their registers: in a larger page the next group stands there, in a page of no more groups the two periods
+pub record Behind (before place : ℕ) : Type 0 where
+  pub group : (rows : ℕ) → before < rows → Stands rows (1 + 5 * before) Group place
+  pub register : (rows i at : ℕ) → (before < rows) × (i < 4) × (at ≡ place + 70 + 23 * i) → Stands rows (2 + 5 * before + i) Register at
+  pub period : (i at : ℕ) → (i < 2) × (at ≡ place + 42 * i) → Stands before (1 + 5 * before + i) Period at
+  pub span_is : place + 84 ≡ span (order before)
+  pub length_is : (rs : List PageRecord) → Page before rs → length (run pages rs) ≡ place + 84

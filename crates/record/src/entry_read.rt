@@ -1,27 +1,15 @@
 // Bytes as entries.
-ghost use Rattle.std.specs.Prelude.{◌≡◌, ◌+◌, ◌≤◌, length};
-ghost use Rattle.record.specs.Format.{unsigned, Reads, total};
-ghost use Rattle.record.specs.Kinds.{each, entry_layout};
-ghost use Rattle.record.specs.Entries.{kind_of, entry_values, four, Registers, Reading, ReadsEntry};
+ghost use Rattle.std.specs.Prelude.{◌≡◌, length};
+ghost use Rattle.record.specs.Format.{Reads, total};
+ghost use Rattle.record.specs.Kinds.{entry_layout};
+ghost use Rattle.record.specs.Entries.{kind_of, entry_values, Registers, Reading, ReadsEntry};
 
+use crate::apart::{Lack, take_apart};
 use crate::entry::{Enrolment, Entry};
+use crate::field::Party;
 use crate::kind::EntryKind;
-use crate::number::{number, signed_four};
+use crate::number::{read, read_four};
 use fault::{BytePlace, Fault};
-
-// Four numbers of four bytes, one for each register.
-fn four_words(body: &[u8], at: usize) -> [u32; 4]
-    requires { at + 16 ≤ length body.now }
-    ensures values { Reads body.now at (each (unsigned 4)) (four result) }
-    ensures registers { length result ≡ 4 }
-{
-    [
-        number(body, at, 4) as u32,
-        number(body, at + 4, 4) as u32,
-        number(body, at + 8, 4) as u32,
-        number(body, at + 12, 4) as u32,
-    ]
-}
 
 fn enrolment(body: &[u8]) -> Enrolment
     requires { length body.now ≡ total (entry_layout EntryKind.Enrol) }
@@ -29,14 +17,14 @@ fn enrolment(body: &[u8]) -> Enrolment
     ensures registers { Registers (Entry.Enrol result) }
 {
     Enrolment {
-        code: number(body, 0, 8),
-        brp: number(body, 8, 2),
-        supplier: number(body, 10, 2),
-        class: number(body, 12, 1) as u8,
-        digits: number(body, 13, 1) as u8,
-        factor: number(body, 14, 1) as u8,
-        volumes: four_words(body, 15),
-        stands: four_words(body, 31),
+        code: read(body, 0),
+        brp: read::<Party>(body, 8).0,
+        supplier: read::<Party>(body, 10).0,
+        class: read(body, 12),
+        digits: read(body, 13),
+        factor: read(body, 14),
+        volumes: read_four(body, 15),
+        stands: read_four(body, 31),
     }
 }
 
@@ -49,31 +37,31 @@ fn entry_of(kind: EntryKind, body: &[u8]) -> Entry
 {
     match kind {
         EntryKind::Begin => Entry::Begin {
-            quarters: number(body, 0, 2) as u16,
-            loss_party: number(body, 2, 2),
+            quarters: read(body, 0),
+            loss_party: read::<Party>(body, 2).0,
         },
         EntryKind::Enrol => Entry::Enrol(enrolment(body)),
         EntryKind::Read => Entry::Read {
-            code: number(body, 0, 8),
-            stands: four_words(body, 8),
+            code: read(body, 0),
+            stands: read_four(body, 8),
         },
         EntryKind::Switch => Entry::Switch {
-            code: number(body, 0, 8),
-            brp: number(body, 8, 2),
-            supplier: number(body, 10, 2),
+            code: read(body, 0),
+            brp: read::<Party>(body, 8).0,
+            supplier: read::<Party>(body, 10).0,
         },
         EntryKind::Leave => Entry::Leave {
-            code: number(body, 0, 8),
+            code: read(body, 0),
         },
         EntryKind::Open => Entry::Open {
-            period: number(body, 0, 1) as u8,
-            price: signed_four(body, 1),
+            period: read(body, 0),
+            price: read(body, 1),
         },
         EntryKind::Post => Entry::Post {
-            kind: number(body, 0, 1) as u8,
-            brp: number(body, 1, 2),
-            supplier: number(body, 3, 2),
-            wh: number(body, 5, 4) as u32,
+            kind: read(body, 0),
+            brp: read::<Party>(body, 1).0,
+            supplier: read::<Party>(body, 3).0,
+            wh: read(body, 5),
         },
         EntryKind::Weigh => Entry::Weigh,
         EntryKind::PutBack => Entry::PutBack,
@@ -83,19 +71,15 @@ fn entry_of(kind: EntryKind, body: &[u8]) -> Entry
     }
 }
 
-// The first entry of the bytes, as `Entry::read` gives it.
+// Which answer comes. It is apart from `Entry::read`, all of whose promises follow from this one.
 fn first_entry(bytes: &[u8], place: BytePlace) -> Result<Option<(Entry, &[u8])>, Fault>
     ensures { Reading bytes.now place result }
 {
-    let [first, behind @ ..] = bytes else {
-        return Ok(None);
-    };
-    let Some(kind) = EntryKind::of_number(*first) else {
-        return Err(Fault::UnknownKind(place));
-    };
-    match behind.split_at_checked(kind.length()) {
-        None => Err(Fault::CutEntry(place)),
-        Some((body, rest)) => Ok(Some((entry_of(kind, body), rest))),
+    match take_apart(bytes) {
+        Ok((kind, body, rest)) => Ok(Some((entry_of(kind, body), rest))),
+        Err(Lack::End) => Ok(None),
+        Err(Lack::Unknown) => Err(Fault::UnknownKind(place)),
+        Err(Lack::Cut) => Err(Fault::CutEntry(place)),
     }
 }
 

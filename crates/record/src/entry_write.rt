@@ -1,104 +1,107 @@
 // Entries as bytes.
-ghost use Rattle.record.specs.Family.{Puts, Writes};
+ghost use Rattle.std.specs.Prelude.{◌≡◌, true};
+ghost use Rattle.record.specs.Format.{all_fit};
+ghost use Rattle.record.specs.Family.{fields, Puts, Writable, Writes};
 ghost use Rattle.record.specs.Entries.{entries};
 
 use crate::entry::{Enrolment, Entry};
 use crate::kind::EntryKind;
-use crate::number::bits_four;
-use crate::put::put;
+use crate::put::{Filled, field, party, put_checked};
 
 impl Enrolment {
-    // Writes the record of the enrolment, as `Entry::put` does.
-    fn put(&self, out: &mut [u8], at: usize) -> Option<usize>
-        ensures { Puts entries (Entry.Enrol self.now) at out.old out.new result }
+    // The fields of the record.
+    fn fields(&self) -> [Filled; 15]
+        ensures value { result ≡ fields entries (Entry.Enrol self.now) }
+        ensures writable { all_fit result ≡ true → Writable entries (Entry.Enrol self.now) }
     {
-        let fields = [
-            (1, EntryKind::Enrol.number() as u64),
-            (8, self.code),
-            (2, self.brp),
-            (2, self.supplier),
-            (1, self.class as u64),
-            (1, self.digits as u64),
-            (1, self.factor as u64),
-            (4, self.volumes[0] as u64),
-            (4, self.volumes[1] as u64),
-            (4, self.volumes[2] as u64),
-            (4, self.volumes[3] as u64),
-            (4, self.stands[0] as u64),
-            (4, self.stands[1] as u64),
-            (4, self.stands[2] as u64),
-            (4, self.stands[3] as u64),
-        ];
-        put(out, at, &fields)
+        [
+            field(EntryKind::Enrol.number()),
+            field(self.code),
+            party(self.brp),
+            party(self.supplier),
+            field(self.class),
+            field(self.digits),
+            field(self.factor),
+            field(self.volumes[0]),
+            field(self.volumes[1]),
+            field(self.volumes[2]),
+            field(self.volumes[3]),
+            field(self.stands[0]),
+            field(self.stands[1]),
+            field(self.stands[2]),
+            field(self.stands[3]),
+        ]
     }
 }
 
 impl Entry {
-    // Writes the fields of the record, as `write` does.
-    fn put(&self, out: &mut [u8], at: usize) -> Option<usize>
+    // Writes the fields of the record. It is apart from `write`, which has only the laws of the family left to show,
+    // and as long as the format, with one arm for each kind: a function for each would name the fields once more.
+    fn put_record(&self, out: &mut [u8], at: usize) -> Option<usize>
         ensures { Puts entries self.now at out.old out.new result }
     {
-        let kind = (1, self.kind().number() as u64);
+        let kind = field(self.kind().number());
         match self {
             Entry::Begin {
                 quarters,
                 loss_party,
-            } => { put(out, at, &[kind, (2, *quarters as u64), (2, *loss_party)]) }
-            Entry::Enrol(enrolment) => enrolment.put(out, at),
-            Entry::Read { code, stands } => put(
+            } => { put_checked(out, at, &[kind, field(*quarters), party(*loss_party)]) }
+            Entry::Enrol(enrolment) => put_checked(out, at, &enrolment.fields()),
+            Entry::Read { code, stands } => put_checked(
                 out,
                 at,
                 &[
                     kind,
-                    (8, *code),
-                    (4, stands[0] as u64),
-                    (4, stands[1] as u64),
-                    (4, stands[2] as u64),
-                    (4, stands[3] as u64),
+                    field(*code),
+                    field(stands[0]),
+                    field(stands[1]),
+                    field(stands[2]),
+                    field(stands[3]),
                 ],
             ),
             Entry::Switch {
                 code,
                 brp,
                 supplier,
-            } => { put(out, at, &[kind, (8, *code), (2, *brp), (2, *supplier)]) }
-            Entry::Leave { code } => put(out, at, &[kind, (8, *code)]),
-            Entry::Open { period, price } => {
-                put(
+            } => {
+                put_checked(
                     out,
                     at,
-                    &[kind, (1, *period as u64), (4, bits_four(*price))],
+                    &[kind, field(*code), party(*brp), party(*supplier)],
                 )
+            }
+            Entry::Leave { code } => put_checked(out, at, &[kind, field(*code)]),
+            Entry::Open { period, price } => {
+                put_checked(out, at, &[kind, field(*period), field(*price)])
             }
             Entry::Post {
                 kind: posting,
                 brp,
                 supplier,
                 wh,
-            } => put(
+            } => put_checked(
                 out,
                 at,
                 &[
                     kind,
-                    (1, *posting as u64),
-                    (2, *brp),
-                    (2, *supplier),
-                    (4, *wh as u64),
+                    field(*posting),
+                    party(*brp),
+                    party(*supplier),
+                    field(*wh),
                 ],
             ),
-            Entry::Weigh => put(out, at, &[kind]),
-            Entry::PutBack => put(out, at, &[kind]),
-            Entry::Divide => put(out, at, &[kind]),
-            Entry::Withdraw => put(out, at, &[kind]),
-            Entry::Settle => put(out, at, &[kind]),
+            Entry::Weigh | Entry::PutBack | Entry::Divide | Entry::Withdraw | Entry::Settle => {
+                put_checked(out, at, &[kind])
+            }
         }
     }
 
     // Writes the entry's record at the place `at`, and says which place comes next.
     // Writes nothing where a party is too large for the record, or the memory ends too early.
+    // The memory comes whole and with a place, since a caller may give any place in it: what stands before is kept, too.
     pub fn write(&self, out: &mut [u8], at: usize) -> Option<usize>
         ensures { Writes entries self.now at out.old out.new result }
     {
-        self.put(out, at)
+        self.put_record(out, at)
     }
 }

@@ -1,9 +1,11 @@
 // Records: one byte of kind and a body whose length the kind fixes, as values and as bytes.
 #![tactic(auto)]
 
+mod apart;
 pub mod entry;
 mod entry_read;
 mod entry_write;
+mod field;
 pub mod kind;
 mod number;
 pub mod page;
@@ -13,6 +15,6 @@ pub mod place;
 mod put;
 
 pub use entry::{Enrolment, Entry};
-pub use kind::{EntryKind, PageKind};
+pub use kind::{EntryKind, NoKind, PageKind};
 pub use page::{GroupVolumes, PageRecord, Part};
 pub use place::{group_place, page_length, period_place, register_place};

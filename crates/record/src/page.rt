@@ -19,6 +19,7 @@ pub struct GroupVolumes {
 }
 
 // What the book writes. Volumes are in Wh, prices in cents per MWh, amounts in cents.
+// A field takes every number of its type, periods, registers and layers too, so that any bytes of the right length are read as they stand.
 // Parties have a wide type, since only the record knows how many bytes they take.
 #[derive(Clone, Copy)]
 pub enum PageRecord {

@@ -1,26 +1,15 @@
 // Bytes as the records of a page.
-ghost use Rattle.std.specs.Prelude.{◌≡◌, ◌+◌, ◌≤◌, length};
-ghost use Rattle.record.specs.Format.{signed, Reads, total};
-ghost use Rattle.record.specs.Kinds.{each, page_layout};
-ghost use Rattle.record.specs.Pages.{four_signed, page_kind_of, page_values, PageRegisters, FromBody, TakenApart, ReadsRecord};
+ghost use Rattle.std.specs.Prelude.{◌≡◌, ℕ, List, length};
+ghost use Rattle.record.specs.Format.{Reads, total};
+ghost use Rattle.record.specs.Kinds.{page_layout};
+ghost use Rattle.record.specs.Family.{Begins};
+ghost use Rattle.record.specs.Pages.{page_kind_of, page_values, pages, PageRegisters, Apart, FromBody, TakenApart, PageReading, ReadsRecord};
 
+use crate::apart::take_apart;
+use crate::field::Party;
 use crate::kind::PageKind;
-use crate::number::{number, signed_eight};
+use crate::number::{read, read_four};
 use crate::page::{GroupVolumes, PageRecord, Part};
-
-// Four signed numbers of eight bytes, one for each register.
-fn four_volumes(body: &[u8], at: usize) -> [i64; 4]
-    requires { at + 32 ≤ length body.now }
-    ensures values { Reads body.now at (each (signed 8)) (four_signed result) }
-    ensures registers { length result ≡ 4 }
-{
-    [
-        signed_eight(body, at),
-        signed_eight(body, at + 8),
-        signed_eight(body, at + 16),
-        signed_eight(body, at + 24),
-    ]
-}
 
 fn group_volumes(body: &[u8]) -> GroupVolumes
     requires { length body.now ≡ total (page_layout PageKind.Group) }
@@ -28,11 +17,11 @@ fn group_volumes(body: &[u8]) -> GroupVolumes
     ensures registers { PageRegisters (PageRecord.Group result) }
 {
     GroupVolumes {
-        brp: number(body, 0, 2),
-        supplier: number(body, 2, 2),
-        class: number(body, 4, 1) as u8,
-        month: four_volumes(body, 5),
-        real: four_volumes(body, 37),
+        brp: read::<Party>(body, 0).0,
+        supplier: read::<Party>(body, 2).0,
+        class: read(body, 4),
+        month: read_four(body, 5),
+        real: read_four(body, 37),
     }
 }
 
@@ -45,33 +34,33 @@ fn record_of(kind: PageKind, body: &[u8]) -> PageRecord
 {
     match kind {
         PageKind::Head => PageRecord::Head {
-            quarters: number(body, 0, 2) as u16,
-            loss_party: number(body, 2, 2),
-            rows: number(body, 4, 4) as u32,
+            quarters: read(body, 0),
+            loss_party: read::<Party>(body, 2).0,
+            rows: read(body, 4),
         },
         PageKind::Group => PageRecord::Group(group_volumes(body)),
         PageKind::Period => PageRecord::Period {
-            period: number(body, 0, 1) as u8,
-            price: signed_eight(body, 1),
-            real_loss: signed_eight(body, 9),
-            loss: signed_eight(body, 17),
-            reconciliation: signed_eight(body, 25),
-            amount: signed_eight(body, 33),
+            period: read(body, 0),
+            price: read(body, 1),
+            real_loss: read(body, 9),
+            loss: read(body, 17),
+            reconciliation: read(body, 25),
+            amount: read(body, 33),
         },
         PageKind::Register => PageRecord::Register {
-            brp: number(body, 0, 2),
-            supplier: number(body, 2, 2),
-            class: number(body, 4, 1) as u8,
-            register: number(body, 5, 1) as u8,
-            reconciliation: signed_eight(body, 6),
-            amount: signed_eight(body, 14),
+            brp: read::<Party>(body, 0).0,
+            supplier: read::<Party>(body, 2).0,
+            class: read(body, 4),
+            register: read(body, 5),
+            reconciliation: read(body, 6),
+            amount: read(body, 14),
         },
         PageKind::Refusal => PageRecord::Refusal {
-            number: number(body, 0, 1) as u8,
-            layer: number(body, 1, 1) as u8,
-            first: number(body, 2, 8),
-            second: number(body, 10, 8),
-            third: number(body, 18, 8),
+            number: read(body, 0),
+            layer: read(body, 1),
+            first: read(body, 2),
+            second: read(body, 10),
+            third: read(body, 18),
         },
     }
 }
@@ -81,13 +70,25 @@ impl<'a> Part<'a> {
     pub fn take(bytes: &'a [u8]) -> Option<Part<'a>>
         ensures { TakenApart bytes.now result }
     {
-        let [first, behind @ ..] = bytes else {
-            return None;
-        };
-        let kind = PageKind::of_number(*first)?;
-        let (body, rest) = behind.split_at_checked(kind.length())?;
+        let (kind, body, rest) = take_apart(bytes).ok()?;
         Some(Part { kind, body, rest })
     }
+
+    // The record that the parts are of.
+    fn record(&self) -> PageRecord
+        requires { length self.now.body.now ≡ total (page_layout self.now.kind) }
+        ensures { (bytes : List ℕ) → Apart bytes self.now → Begins pages bytes result self.now.rest.now }
+    {
+        record_of(self.kind, self.body)
+    }
+}
+
+// Which answer comes. It is apart from `PageRecord::read`, all of whose promises follow from this one.
+fn first_record(bytes: &[u8]) -> Option<(PageRecord, &[u8])>
+    ensures { PageReading bytes.now result }
+{
+    let part = Part::take(bytes)?;
+    Some((part.record(), part.rest))
 }
 
 impl PageRecord {
@@ -106,8 +107,6 @@ impl PageRecord {
     pub fn read(bytes: &[u8]) -> Option<(PageRecord, &[u8])>
         ensures { ReadsRecord bytes.now result }
     {
-        let part = Part::take(bytes)?;
-        let record = PageRecord::from_body(part.kind, part.body)?;
-        Some((record, part.rest))
+        first_record(bytes)
     }
 }

@@ -1,75 +1,54 @@
 // The records of a page as bytes.
-ghost use Rattle.std.specs.Prelude.{◌≡◌};
-ghost use Rattle.record.specs.Format.{signed, Fits, filled};
-ghost use Rattle.record.specs.Family.{Puts, Writes};
-ghost use Rattle.record.specs.Kinds.{each};
-ghost use Rattle.record.specs.Pages.{four_signed, pages};
+ghost use Rattle.std.specs.Prelude.{◌≡◌, true};
+ghost use Rattle.record.specs.Format.{all_fit};
+ghost use Rattle.record.specs.Family.{fields, Puts, Writable, Writes};
+ghost use Rattle.record.specs.Pages.{pages};
 
 use crate::kind::PageKind;
-use crate::number::bits_eight;
 use crate::page::{GroupVolumes, PageRecord};
-use crate::put::{Field, put};
-
-// The fields of a volume for each register.
-fn volume_fields(volumes: &[i64; 4]) -> [Field; 4]
-    ensures value { result ≡ filled (each (signed 8)) (four_signed volumes.now) }
-    ensures fits { Fits (each (signed 8)) (four_signed volumes.now) }
-{
-    [
-        (8, bits_eight(volumes[0])),
-        (8, bits_eight(volumes[1])),
-        (8, bits_eight(volumes[2])),
-        (8, bits_eight(volumes[3])),
-    ]
-}
+use crate::put::{Filled, field, party, put_checked};
 
 impl GroupVolumes {
-    // Writes the record of the group, as `PageRecord::put` does.
-    fn put(&self, out: &mut [u8], at: usize) -> Option<usize>
-        ensures { Puts pages (PageRecord.Group self.now) at out.old out.new result }
+    // The fields of the record.
+    fn fields(&self) -> [Filled; 12]
+        ensures value { result ≡ fields pages (PageRecord.Group self.now) }
+        ensures writable { all_fit result ≡ true → Writable pages (PageRecord.Group self.now) }
     {
-        let month = volume_fields(&self.month);
-        let real = volume_fields(&self.real);
-        let fields = [
-            (1, PageKind::Group.number() as u64),
-            (2, self.brp),
-            (2, self.supplier),
-            (1, self.class as u64),
-            month[0],
-            month[1],
-            month[2],
-            month[3],
-            real[0],
-            real[1],
-            real[2],
-            real[3],
-        ];
-        put(out, at, &fields)
+        [
+            field(PageKind::Group.number()),
+            party(self.brp),
+            party(self.supplier),
+            field(self.class),
+            field(self.month[0]),
+            field(self.month[1]),
+            field(self.month[2]),
+            field(self.month[3]),
+            field(self.real[0]),
+            field(self.real[1]),
+            field(self.real[2]),
+            field(self.real[3]),
+        ]
     }
 }
 
 impl PageRecord {
-    // Writes the fields of the record, as `write` does.
-    fn put(&self, out: &mut [u8], at: usize) -> Option<usize>
+    // Writes the fields of the record. It is apart from `write`, which has only the laws of the family left to show,
+    // and as long as the format, with one arm for each kind: a function for each would name the fields once more.
+    fn put_record(&self, out: &mut [u8], at: usize) -> Option<usize>
         ensures { Puts pages self.now at out.old out.new result }
     {
-        let kind = (1, self.kind().number() as u64);
+        let kind = field(self.kind().number());
         match self {
             PageRecord::Head {
                 quarters,
                 loss_party,
                 rows,
-            } => put(
+            } => put_checked(
                 out,
                 at,
-                &[
-                    kind,
-                    (2, *quarters as u64),
-                    (2, *loss_party),
-                    (4, *rows as u64),
-                ],
+                &[kind, field(*quarters), party(*loss_party), field(*rows)],
             ),
-            PageRecord::Group(group) => group.put(out, at),
+            PageRecord::Group(group) => put_checked(out, at, &group.fields()),
             PageRecord::Period {
                 period,
                 price,
@@ -77,17 +56,17 @@ impl PageRecord {
                 loss,
                 reconciliation,
                 amount,
-            } => put(
+            } => put_checked(
                 out,
                 at,
                 &[
                     kind,
-                    (1, *period as u64),
-                    (8, bits_eight(*price)),
-                    (8, bits_eight(*real_loss)),
-                    (8, bits_eight(*loss)),
-                    (8, bits_eight(*reconciliation)),
-                    (8, bits_eight(*amount)),
+                    field(*period),
+                    field(*price),
+                    field(*real_loss),
+                    field(*loss),
+                    field(*reconciliation),
+                    field(*amount),
                 ],
             ),
             PageRecord::Register {
@@ -97,17 +76,17 @@ impl PageRecord {
                 register,
                 reconciliation,
                 amount,
-            } => put(
+            } => put_checked(
                 out,
                 at,
                 &[
                     kind,
-                    (2, *brp),
-                    (2, *supplier),
-                    (1, *class as u64),
-                    (1, *register as u64),
-                    (8, bits_eight(*reconciliation)),
-                    (8, bits_eight(*amount)),
+                    party(*brp),
+                    party(*supplier),
+                    field(*class),
+                    field(*register),
+                    field(*reconciliation),
+                    field(*amount),
                 ],
             ),
             PageRecord::Refusal {
@@ -116,16 +95,16 @@ impl PageRecord {
                 first,
                 second,
                 third,
-            } => put(
+            } => put_checked(
                 out,
                 at,
                 &[
                     kind,
-                    (1, *number as u64),
-                    (1, *layer as u64),
-                    (8, *first),
-                    (8, *second),
-                    (8, *third),
+                    field(*number),
+                    field(*layer),
+                    field(*first),
+                    field(*second),
+                    field(*third),
                 ],
             ),
         }
@@ -133,9 +112,10 @@ impl PageRecord {
 
     // Writes the record at the place `at`, and says which place comes next.
     // Writes nothing where a party is too large for the record, or the memory ends too early.
+    // The memory comes whole and with a place, since a caller may give any place in it: what stands before is kept, too.
     pub fn write(&self, out: &mut [u8], at: usize) -> Option<usize>
         ensures { Writes pages self.now at out.old out.new result }
     {
-        self.put(out, at)
+        self.put_record(out, at)
     }
 }

@@ -12,37 +12,58 @@ fn show(rt: &HostRuntime, bytes: &[u8]) -> io::Result<()> {
     println!(rt; "")
 }
 
-// The entry's record, as it is written after it was read.
-fn show_entry(rt: &HostRuntime, entry: Entry) -> io::Result<()> {
-    let mut first = [0; 64];
-    let mut again = [0; 64];
-    if entry.write(&mut first, 0).is_none() {
+// More than the longest record takes.
+const ROOM: usize = 80;
+
+// A record that is written to the front of some memory, and read from there.
+trait Record: Drop {
+    fn write(&self, out: &mut [u8]) -> Option<usize>;
+
+    fn read(bytes: &[u8]) -> Result<Option<Self>, Fault>;
+}
+
+impl Record for Entry {
+    fn write(&self, out: &mut [u8]) -> Option<usize> {
+        Entry::write(self, out, 0)
+    }
+
+    fn read(bytes: &[u8]) -> Result<Option<Entry>, Fault> {
+        Ok(Entry::read(bytes, BytePlace(0))?.map(|(entry, _)| entry))
+    }
+}
+
+impl Record for PageRecord {
+    fn write(&self, out: &mut [u8]) -> Option<usize> {
+        PageRecord::write(self, out, 0)
+    }
+
+    fn read(bytes: &[u8]) -> Result<Option<PageRecord>, Fault> {
+        Ok(PageRecord::read(bytes).map(|(record, _)| record))
+    }
+}
+
+// The record, as it is written after it was read.
+fn show_again<R: Record>(rt: &HostRuntime, record: &R) -> io::Result<()> {
+    let mut first = [0; ROOM];
+    let mut again = [0; ROOM];
+    if record.write(&mut first).is_none() {
         return println!(rt; "does not fit");
     }
-    match Entry::read(&first, BytePlace(0)) {
-        Ok(Some((same, _))) => match same.write(&mut again, 0) {
-            Some(n) if n <= 64 => show(rt, &again[0..n]),
-            _ => println!(rt; "does not fit again"),
+    match R::read(&first) {
+        Ok(Some(same)) => match same.write(&mut again).and_then(|n| again.get(..n)) {
+            Some(bytes) => show(rt, bytes),
+            None => println!(rt; "does not fit again"),
         },
         Ok(None) => println!(rt; "nothing to read"),
         Err(fault) => println!(rt; "{fault}"),
     }
 }
 
-// The record of a page, as it is written after it was read.
-fn show_record(rt: &HostRuntime, record: PageRecord) -> io::Result<()> {
-    let mut first = [0; 80];
-    let mut again = [0; 80];
-    if record.write(&mut first, 0).is_none() {
-        return println!(rt; "does not fit");
+fn show_all<R: Record>(rt: &HostRuntime, records: &[R]) -> io::Result<()> {
+    for record in records {
+        show_again(rt, record)?;
     }
-    match PageRecord::read(&first) {
-        Some((same, _)) => match same.write(&mut again, 0) {
-            Some(n) if n <= 80 => show(rt, &again[0..n]),
-            _ => println!(rt; "does not fit again"),
-        },
-        None => println!(rt; "nothing to read"),
-    }
+    Ok(())
 }
 
 // What is said of bytes that begin with no entry.
@@ -53,17 +74,13 @@ fn show_fault(rt: &HostRuntime, bytes: &[u8], place: u64) -> io::Result<()> {
     }
 }
 
-fn show_entries(rt: &HostRuntime) -> io::Result<()> {
+fn entries() -> [Entry; 13] {
     let code = 871600000000000017;
-    show_entry(
-        rt,
+    [
         Entry::Begin {
             quarters: 2980,
             loss_party: 7,
         },
-    )?;
-    show_entry(
-        rt,
         Entry::Enrol(Enrolment {
             code,
             brp: 258,
@@ -74,65 +91,46 @@ fn show_entries(rt: &HostRuntime) -> io::Result<()> {
             volumes: [1, 2, 3, 4294967295],
             stands: [16909060, 0, 99999, 10],
         }),
-    )?;
-    show_entry(
-        rt,
         Entry::Read {
             code,
             stands: [1, 256, 65536, 16777216],
         },
-    )?;
-    show_entry(
-        rt,
         Entry::Switch {
             code,
             brp: 1,
             supplier: 2,
         },
-    )?;
-    show_entry(rt, Entry::Leave { code })?;
-    show_entry(
-        rt,
+        Entry::Leave { code },
         Entry::Open {
             period: 1,
             price: -500000,
         },
-    )?;
-    show_entry(
-        rt,
         Entry::Post {
             kind: 3,
             brp: 5,
             supplier: 6,
             wh: 2000000000,
         },
-    )?;
-    show_entry(rt, Entry::Weigh)?;
-    show_entry(rt, Entry::PutBack)?;
-    show_entry(rt, Entry::Divide)?;
-    show_entry(rt, Entry::Withdraw)?;
-    show_entry(rt, Entry::Settle)?;
-    // no party of this size has two bytes
-    show_entry(
-        rt,
+        Entry::Weigh,
+        Entry::PutBack,
+        Entry::Divide,
+        Entry::Withdraw,
+        Entry::Settle,
+        // no party of this size has two bytes
         Entry::Begin {
             quarters: 1,
             loss_party: 65536,
         },
-    )
+    ]
 }
 
-fn show_records(rt: &HostRuntime) -> io::Result<()> {
-    show_record(
-        rt,
+fn page_records() -> [PageRecord; 6] {
+    [
         PageRecord::Head {
             quarters: 1,
             loss_party: 7,
             rows: 128,
         },
-    )?;
-    show_record(
-        rt,
         PageRecord::Group(GroupVolumes {
             brp: 1,
             supplier: 2,
@@ -140,9 +138,6 @@ fn show_records(rt: &HostRuntime) -> io::Result<()> {
             month: [-33000, -1, 4500, 0],
             real: [-800000, 9223372036854775807, -9223372036854775808, 255],
         }),
-    )?;
-    show_record(
-        rt,
         PageRecord::Period {
             period: 0,
             price: 6500,
@@ -151,9 +146,6 @@ fn show_records(rt: &HostRuntime) -> io::Result<()> {
             reconciliation: 3998,
             amount: -1,
         },
-    )?;
-    show_record(
-        rt,
         PageRecord::Register {
             brp: 1,
             supplier: 2,
@@ -162,17 +154,14 @@ fn show_records(rt: &HostRuntime) -> io::Result<()> {
             reconciliation: -1500000,
             amount: -9750,
         },
-    )?;
-    show_record(
-        rt,
         PageRecord::of_fault(Fault::NotEnrolled(Code(871600000000000017))),
-    )?;
-    show_record(rt, PageRecord::of_fault(Fault::CutEntry(BytePlace(5))))
+        PageRecord::of_fault(Fault::CutEntry(BytePlace(5))),
+    ]
 }
 
 fn main(rt: HostRuntime) -> io::Result<()> {
-    show_entries(&rt)?;
-    show_records(&rt)?;
+    show_all(&rt, &entries())?;
+    show_all(&rt, &page_records())?;
     show_fault(&rt, &[28, 0, 0], 14)?;
     show_fault(&rt, &[16, 0, 1, 0], 9)
 }

@@ -1,7 +1,7 @@
 -- A loop that rewrites each row of a list, one after the other. Assumes nothing.
-use Rattle.std.proofs.Common.{◌≡◌, ℕ, ◌+◌, ◌<◌, ◌≤◌, List, ◌++◌, map, length, get_or, take, drop, set, ap, ◌∙◌, append-nil, arith}
+use Rattle.std.proofs.Common.{◌≡◌, ℕ, ◌+◌, ◌<◌, List, ◌++◌, map, length, get_or, take, drop, set, ap, ◌∙◌, arith}
 use Rattle.std.proofs.lemmas.List.Edits.{map_over_more}
-use Rattle.std.proofs.lemmas.List.{drop_all, take_all, get_or_default, drop_more, get_or_at, length-map, length-take-le}
+use Rattle.std.proofs.lemmas.List.{get_or_default, drop_more, get_or_at, length-map, length-take-le}
 
 module _ {X : Type 0} (f : X → X) (xs ys : List X) (i : ℕ) (same : length ys ≡ length xs) (front : ys ≡ map f (take i xs) ++ drop i xs) where
   -- one row more
@@ -15,11 +15,3 @@ module _ {X : Type 0} (f : X → X) (xs ys : List X) (i : ℕ) (same : length ys
       let long : length (map f (take i xs)) ≡ i = length-map (take i xs) f ∙ length-take-le i xs (omega arith) in
       let here = get_or_at (map f (take i xs)) (get_or xs i d) (drop (i + 1) xs) d i long in
       ap (λ zs. get_or zs i d) front ∙ ap (λ zs. get_or (map f (take i xs) ++ zs) i d) cut ∙ here
-
-  -- none left
-  pub map_end : length xs ≤ i → ys ≡ map f xs
-  map_end l =
-      let none = drop_all i xs l in
-      let all = take_all i xs l in
-      let bare = append-nil (map f xs) in
-      cc front

@@ -1,5 +1,5 @@
 -- The amounts of a line of rows. Assumes nothing.
-use Rattle.std.proofs.Common.{◌≡◌, ℕ, Bool, true, false, cond, ltb, List, [], ◌∷◌, ℤ, pos, ◌+ℤ◌, nat_abs, Some, None, Ok, Err, Option, Result, sym, refl, ap, ◌∙◌, arith}
+use Rattle.std.proofs.Common.{◌≡◌, ℕ, Bool, true, false, cond, ltb, List, [], ◌∷◌, ℤ, pos, ◌+ℤ◌, nat_abs, Some, None, Ok, Err, Option, Result, sym, refl, ap, ◌∙◌}
 use Rattle.fault.specs.declared.cause.Fault.{Fault}
 use Rattle.allocation.specs.Refusals.{Decided}
 use Rattle.allocation.specs.Scale.{most_volume}
@@ -8,30 +8,17 @@ use Rattle.allocation.specs.Settling.{amount_of, total_refusal}
 use Rattle.rows.specs.declared.group.GroupRow.{GroupRow}
 use Rattle.rows.specs.Registers.{register}
 use Rattle.rows.specs.Settling.{reconciliation, settle_line}
-use Rattle.rows.specs.RowAmounts.{after_row, last_amount, loss_amount, pair_refusal, row_refusal, settle_refusal, unpriced}
-
-pub first_refused : (s x y : ℤ) (e : Fault) → total_refusal (s +ℤ x) ≡ Some e → pair_refusal s x y ≡ Some e
-first_refused s x y e h = grind arith
-
-pub second_refused : (s x y t : ℤ) (e : Fault) → total_refusal (s +ℤ x) ≡ None → t ≡ s +ℤ x → total_refusal (t +ℤ y) ≡ Some e → pair_refusal s x y ≡ Some e
-second_refused s x y t e h same k =
-    let there : total_refusal ((s +ℤ x) +ℤ y) ≡ Some e = ap (λ z. total_refusal (z +ℤ y)) (sym same) ∙ k in
-    grind arith
-
-pub both_passed : (s x y t : ℤ) → total_refusal (s +ℤ x) ≡ None → t ≡ s +ℤ x → total_refusal (t +ℤ y) ≡ None → pair_refusal s x y ≡ None
-both_passed s x y t h same k =
-    let there : total_refusal ((s +ℤ x) +ℤ y) ≡ None = ap (λ z. total_refusal (z +ℤ y)) (sym same) ∙ k in
-    grind arith
+use Rattle.rows.specs.RowAmounts.{after_row, last_amount, loss_amount, row_refusal, settle_refusal, unpriced}
 
 both_parts : {A : Type 0} (a b : Bool) (x : A) (rest : Option A) → cond a (Some x) (cond b (Some x) None) ≡ None → cond a (Some x) (cond b (Some x) rest) ≡ rest
-both_parts true b x rest h = let clash : ◌≡◌ {A = ℕ} 0 1 = cc in absurd (omega arith)
-both_parts false true x rest h = let clash : ◌≡◌ {A = ℕ} 0 1 = cc in absurd (omega arith)
+both_parts true b x rest h = cc
+both_parts false true x rest h = cc
 both_parts false false x rest h = refl
 
 some_part : {A : Type 0} (a b : Bool) (x y : A) (rest : Option A) → cond a (Some x) (cond b (Some x) None) ≡ Some y → cond a (Some x) (cond b (Some x) rest) ≡ Some y
 some_part true b x y rest h = h
 some_part false true x y rest h = h
-some_part false false x y rest h = let clash : ◌≡◌ {A = ℕ} 0 1 = cc in absurd (omega arith)
+some_part false false x y rest h = cc
 
 module _ (price : ℤ) (period : ℕ) (loss : ℤ) (rows : List GroupRow) where
   -- the line has come to the total s, and rest is left of it

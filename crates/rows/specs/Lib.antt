@@ -9,4 +9,4 @@ pub mod Steps
 pub mod Blank
 pub mod Metering
 pub mod RowAmounts
-pub mod Pairs
+pub mod Amounts

@@ -16,7 +16,7 @@ use Rattle.rows.specs.Settling.{month_in, real_in, reconciliation, settle_line, 
 abbrev pub register_passed : GroupRow → ℕ → Bool
 register_passed row r = cond (too_large (month_in row r)) true (too_large (real_in row r))
 
--- the same of some register of a row
+-- the month or the real volume of some register of a row beyond its limit
 abbrev pub row_volume_passed : GroupRow → Bool
 row_volume_passed row = any_register (register_passed row)
 
@@ -53,7 +53,7 @@ after_row s period row = s +ℤ reconciliation row (register 0 period) +ℤ reco
 abbrev pub pair_refusal : ℤ → ℤ → ℤ → Option Fault
 pair_refusal s first second = totals_refusal s (unpriced (first ∷ second ∷ []))
 
--- the same of the two volumes of a row
+-- the first running total beyond its limit, of the two volumes of a row after the total s
 abbrev pub row_refusal : ℤ → ℕ → GroupRow → Option Fault
 row_refusal s period row = pair_refusal s (reconciliation row (register 0 period)) (reconciliation row (register 1 period))
 

@@ -21,7 +21,7 @@ row_weight meaning quarter period row direction = weight_meant (meaning row.grou
 -- the fault of a weight that is not to be had
 abbrev pub absent : GroupRow → ℕ → Quarter → Option ℕ → Option Fault
 absent row direction quarter (Some w) = None
-absent row direction quarter None = Some (FractionAbsent row.group.class direction quarter)
+absent row direction quarter None = Some (FractionAbsent (record { class = row.group.class; direction = direction; quarter = quarter }))
 
 -- the first absent fraction of a row: offtake before feed-in
 abbrev pub row_absent : Meaning → Quarter → ℕ → GroupRow → Option Fault

@@ -1,75 +1,49 @@
 // The amounts of a month that is settled, row by row.
-ghost use Rattle.std.specs.Prelude.{◌≡◌, ◌<◌, ◌≤◌, ◌+ℤ◌, Ok, Err};
-ghost use Rattle.fault.specs.Values.{period_number};
+ghost use Rattle.std.specs.Prelude.{◌≡◌, Ok, Err};
+ghost use Rattle.fault.specs.Values.{direction_number, period_number};
 ghost use Rattle.allocation.specs.Refusals.{Decided};
-ghost use Rattle.allocation.specs.Settling.{amount_of, total_refusal};
-ghost use Rattle.rows.specs.Pairs.{Pairs};
 ghost use Rattle.rows.specs.Registers.{four, register};
 ghost use Rattle.rows.specs.Settling.{reconciliation};
 ghost use Rattle.rows.specs.Weighing.{or_else};
-ghost use Rattle.rows.specs.RowAmounts.{after_row, amount_in, loss_amount, row_refusal, settle_refusal};
+ghost use Rattle.rows.specs.Amounts.{Amounts, PeriodAmounts};
+ghost use Rattle.rows.specs.RowAmounts.{after_row, amount_in, loss_amount, row_amount, row_refusal, settle_refusal};
 
+use crate::direction::ByDirection;
 use crate::group::GroupRow;
-use crate::settle::reconciled_at;
-use allocation::range::MOST_VOLUME;
 use allocation::{Price, Settling};
-use fault::{Fault, Limit, Period};
-
-// A volume beyond this takes any running total past its limit.
-const WIDEST: u64 = 2 * MOST_VOLUME;
+use fault::{Direction, Fault, Limit, Period, Register};
 
 // The amount of one volume more, however large: a running total beyond its limit is refused.
 fn wide_amount(settling: &mut Settling, volume: i128) -> Result<i64, Fault>
-    ensures answer { Decided (total_refusal (settling.old.total +ℤ volume)) result (λ a. (a ≡ amount_of settling.old.price.cents settling.old.total volume) × (settling.new.total ≡ settling.old.total +ℤ volume) × (settling.new.price ≡ settling.old.price)) }
+    ensures { Amounts settling.old settling.new volume result }
 {
-    if volume.unsigned_abs() > WIDEST as u128 {
-        return Err(Fault::LimitPassed(Limit::Volume));
-    }
-    settling.amount(volume as i64)
+    let volume = i64::try_from(volume).map_err(|_| Fault::LimitPassed(Limit::Volume))?;
+    settling.amount(volume)
 }
 
-// The amounts of a row in one period, and the line after it.
-#[derive(Clone, Copy)]
-struct PeriodAmounts {
-    offtake: i64,
-    feed_in: i64,
-    settling: Settling,
-}
-
-// The amounts of two volumes, one after the other.
-fn pair_amounts(settling: Settling, offtake: i128, feed_in: i128) -> Result<PeriodAmounts, Fault>
-    ensures { Pairs settling offtake feed_in result }
+// The amount of a row in a register.
+fn register_amount(
+    row: &GroupRow,
+    settling: &mut Settling,
+    direction: Direction,
+    period: Period,
+) -> Result<i64, Fault>
+    ensures { Amounts settling.old settling.new (reconciliation row.now (register (direction_number direction) (period_number period))) result }
 {
-    let mut settling = settling;
-    let offtake = wide_amount(&mut settling, offtake)?;
-    let feed_in = wide_amount(&mut settling, feed_in)?;
-    Ok(PeriodAmounts {
-        offtake,
-        feed_in,
-        settling,
-    })
+    wide_amount(settling, row.reconciliation(Register { direction, period }))
 }
 
 // The amounts of a row in one period, offtake first.
 fn period_amounts(
     row: &GroupRow,
-    settling: Settling,
+    settling: &mut Settling,
     period: Period,
-) -> Result<PeriodAmounts, Fault>
-    ensures { Pairs settling (reconciliation row.now (register 0 (period_number period))) (reconciliation row.now (register 1 (period_number period))) result }
+) -> Result<ByDirection<i64>, Fault>
+    ensures { PeriodAmounts settling.old settling.new (period_number period) row.now result }
 {
-    let number = period.number() as usize;
-    let offtake = reconciled_at(row, number);
-    let feed_in = reconciled_at(row, 2 + number);
-    pair_amounts(settling, offtake, feed_in)
-}
-
-// The line after a row.
-fn pass_row(row: &GroupRow, settling: &mut Settling, period: Period) -> Result<(), Fault>
-    ensures { Decided (row_refusal settling.old.total (period_number period) row.now) result (λ _. (settling.new.total ≡ after_row settling.old.total (period_number period) row.now) × (settling.new.price ≡ settling.old.price)) }
-{
-    *settling = period_amounts(row, *settling, period)?.settling;
-    Ok(())
+    let offtake = register_amount(row, settling, Direction::Offtake, period)?;
+    let feed_in = register_amount(row, settling, Direction::FeedIn, period)?;
+    Ok(ByDirection { offtake, feed_in })
 }
 
 // The amounts of a row by register, in cents, where the lines of both periods have come to it.
@@ -83,11 +57,26 @@ pub fn row_amounts(
     ensures normal { elim result [ Ok _ ↦ (normal.new.total ≡ after_row normal.old.total 0 row.now) × (normal.new.price ≡ normal.old.price) | Err _ ↦ normal.new ≡ normal.old ] }
     ensures low { elim result [ Ok _ ↦ (low.new.total ≡ after_row low.old.total 1 row.now) × (low.new.price ≡ low.old.price) | Err _ ↦ low.new ≡ low.old ] }
 {
-    let first = period_amounts(row, *normal, Period::Normal)?;
-    let second = period_amounts(row, *low, Period::Low)?;
-    *normal = first.settling;
-    *low = second.settling;
-    Ok([first.offtake, second.offtake, first.feed_in, second.feed_in])
+    let mut normal_after = *normal;
+    let mut low_after = *low;
+    let normal_amounts = period_amounts(row, &mut normal_after, Period::Normal)?;
+    let low_amounts = period_amounts(row, &mut low_after, Period::Low)?;
+    *normal = normal_after;
+    *low = low_after;
+    Ok([
+        normal_amounts.offtake,
+        low_amounts.offtake,
+        normal_amounts.feed_in,
+        low_amounts.feed_in,
+    ])
+}
+
+// Brings the line past the volumes of a row.
+fn pass_row(row: &GroupRow, settling: &mut Settling, period: Period) -> Result<(), Fault>
+    ensures { Decided (row_refusal settling.old.total (period_number period) row.now) result (λ _. (settling.new.total ≡ after_row settling.old.total (period_number period) row.now) × (settling.new.price ≡ settling.old.price)) }
+{
+    period_amounts(row, settling, period)?;
+    Ok(())
 }
 
 // The amount of the loss party in a period, in cents: its volume stands behind those of all rows in their line.

@@ -1,5 +1,5 @@
 // Rows at the start: of a group to which nothing was booked, and of a quarter in which nothing was posted.
-ghost use Rattle.std.specs.Prelude.{◌≡◌, map, pos};
+ghost use Rattle.std.specs.Prelude.{◌≡◌, map};
 ghost use Rattle.rows.specs.Blank.{no_connection};
 ghost use Rattle.rows.specs.Groups.{blank, cleared};
 

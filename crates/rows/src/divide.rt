@@ -6,12 +6,13 @@ ghost use Rattle.allocation.specs.Refusals.{Decided};
 ghost use Rattle.allocation.specs.Steps.{part};
 ghost use Rattle.fault.specs.declared.cause.Direction.TheVariants.{Offtake, FeedIn};
 ghost use Rattle.rows.specs.Registers.{four};
-ghost use Rattle.rows.specs.Dividing.{both_held, unsigned, adds_to, volume_of, divided_row, divided_rows, too_large, month_passed, priced};
-ghost use Rattle.rows.specs.Steps.{grown_month, grown_passed, row_passed, RowStepped, month_refusal, divide_refusal};
+ghost use Rattle.rows.specs.Dividing.{adds_to, volume_of, divided_rows, too_large, month_passed, priced};
+ghost use Rattle.rows.specs.Steps.{grown_month, grown_passed, passes_month, divided_from, RowStepped, Takes, month_refusal, divide_refusal};
 
+use crate::direction::ByDirection;
 use crate::group::GroupRow;
-use crate::held::{Held, weights_hold, weights_of};
-use allocation::range::MOST_VOLUME;
+use crate::held::{weights_hold, weights_of};
+use crate::settle::too_large;
 use allocation::{PricedVolume, Running, Split};
 use fault::{Direction, Fault, Limit, Period};
 
@@ -24,21 +25,11 @@ fn correct_one(running: &mut Running, direction: Direction, weight: u64) -> i64
     ensures offtake { running.new.offtake ≡ running.old.offtake +ℤ part Offtake direction result }
     ensures feed_in { running.new.feed_in ≡ running.old.feed_in +ℤ part FeedIn direction result }
 {
-    match running.correct(direction, weight) {
-        Ok(corrected) => corrected.volume,
-        Err(_) => unreachable(),
-    }
-}
-
-// What a row gets in each direction, in Wh.
-#[derive(Clone, Copy)]
-struct Volumes {
-    offtake: i64,
-    feed_in: i64,
+    running.correct(direction, weight).unwrap().volume
 }
 
 // What the two weights of a row get, offtake first.
-fn correct_both(running: &mut Running, held: Held) -> Volumes
+fn correct_both(running: &mut Running, held: ByDirection<u64>) -> ByDirection<i64>
     requires { running.old.passed + (held.offtake + held.feed_in) ≤ running.old.split.total }
     ensures offtake { result.offtake ≡ corrected running.old.split.total running.old.split.residual running.old.passed Offtake held.offtake }
     ensures feed_in { result.feed_in ≡ corrected running.old.split.total running.old.split.residual (running.old.passed + held.offtake) FeedIn held.feed_in }
@@ -49,81 +40,74 @@ fn correct_both(running: &mut Running, held: Held) -> Volumes
 {
     let offtake = correct_one(running, Direction::Offtake, held.offtake);
     let feed_in = correct_one(running, Direction::FeedIn, held.feed_in);
-    Volumes { offtake, feed_in }
+    ByDirection { offtake, feed_in }
 }
 
 // What a row gets, in the place that the split has come to; of class 0 what was posted.
-fn row_volumes(row: &GroupRow, running: &mut Running) -> Volumes
-    requires signs { unsigned row.now ≡ true }
-    requires fits { running.old.passed + both_held row.now ≤ running.old.split.total }
+fn row_volumes(row: &GroupRow, running: &mut Running) -> ByDirection<i64>
+    requires { Takes running.old row.now }
     ensures offtake { result.offtake ≡ volume_of running.old.split.total running.old.split.residual running.old.passed row.now 0 }
     ensures feed_in { result.feed_in ≡ volume_of running.old.split.total running.old.split.residual running.old.passed row.now 1 }
     ensures stepped { RowStepped running.old row.now running.new }
 {
-    if row.group.class == 0 {
-        return Volumes {
-            offtake: row.quarter[0],
-            feed_in: row.quarter[1],
-        };
+    if !row.has_profile() {
+        let [offtake, feed_in] = row.quarter;
+        return ByDirection { offtake, feed_in };
     }
-    match weights_of(row) {
-        Some(held) => correct_both(running, held),
-        None => unreachable(),
-    }
+    correct_both(running, weights_of(row).unwrap())
 }
 
 // A month volume with one volume more; none beyond its limit.
 fn grown(month: i64, volume: i64) -> Option<i64>
     ensures { elim result [ Some sum ↦ (too_large (month +ℤ volume) ≡ false) × (sum ≡ month +ℤ volume) | None ↦ too_large (month +ℤ volume) ≡ true ] }
 {
-    let sum = month as i128 + volume as i128;
-    if sum.unsigned_abs() > MOST_VOLUME as u128 {
-        return None;
-    }
-    Some(sum as i64)
+    month.checked_add(volume).filter(|sum| !too_large(*sum))
 }
 
 // The month volumes with what the running period's registers get; none if one of these passes its limit.
-fn grown_months(month: [i64; 4], volumes: Volumes, period: Period) -> Option<[i64; 4]>
+fn grown_months(month: [i64; 4], volumes: ByDirection<i64>, period: Period) -> Option<[i64; 4]>
     ensures { elim result [ Some months ↦ (grown_passed month (period_number period) volumes.offtake volumes.feed_in ≡ false) × (months ≡ four (grown_month month (period_number period) volumes.offtake volumes.feed_in)) | None ↦ grown_passed month (period_number period) volumes.offtake volumes.feed_in ≡ true ] }
 {
-    let [a, b, c, d] = month;
+    let [offtake_normal, offtake_low, feed_in_normal, feed_in_low] = month;
     match period {
-        Period::Normal => Some([grown(a, volumes.offtake)?, b, grown(c, volumes.feed_in)?, d]),
-        Period::Low => Some([a, grown(b, volumes.offtake)?, c, grown(d, volumes.feed_in)?]),
+        Period::Normal => Some([
+            grown(offtake_normal, volumes.offtake)?,
+            offtake_low,
+            grown(feed_in_normal, volumes.feed_in)?,
+            feed_in_low,
+        ]),
+        Period::Low => Some([
+            offtake_normal,
+            grown(offtake_low, volumes.offtake)?,
+            feed_in_normal,
+            grown(feed_in_low, volumes.feed_in)?,
+        ]),
     }
 }
 
 // A row as the division leaves it; none if one of its month volumes passes its limit.
 fn divide_row(row: &GroupRow, running: &mut Running, period: Period) -> Option<GroupRow>
-    requires signs { unsigned row.now ≡ true }
-    requires fits { running.old.passed + both_held row.now ≤ running.old.split.total }
-    ensures after { elim result [ Some next ↦ (row_passed running.old.split.total running.old.split.residual (period_number period) running.old.passed row.now ≡ false) × (next ≡ divided_row running.old.split.total running.old.split.residual (period_number period) running.old.passed row.now) | None ↦ row_passed running.old.split.total running.old.split.residual (period_number period) running.old.passed row.now ≡ true ] }
+    requires { Takes running.old row.now }
+    ensures after { elim result [ Some next ↦ (passes_month running.old (period_number period) row.now ≡ false) × (next ≡ divided_from running.old (period_number period) row.now) | None ↦ passes_month running.old (period_number period) row.now ≡ true ] }
     ensures stepped { RowStepped running.old row.now running.new }
 {
     let volumes = row_volumes(row, running);
     let month = grown_months(row.month, volumes, period)?;
     Some(GroupRow {
-        group: row.group,
-        standing: row.standing,
         quarter: [volumes.offtake, volumes.feed_in],
         month,
-        real: row.real,
+        ..*row
     })
 }
 
 // Divides one row.
 fn write_divided(row: &mut GroupRow, running: &mut Running, period: Period)
-    requires signs { unsigned row.old ≡ true }
-    requires fits { running.old.passed + both_held row.old ≤ running.old.split.total }
-    requires within { row_passed running.old.split.total running.old.split.residual (period_number period) running.old.passed row.old ≡ false }
-    ensures after { row.new ≡ divided_row running.old.split.total running.old.split.residual (period_number period) running.old.passed row.old }
+    requires takes { Takes running.old row.old }
+    requires within { passes_month running.old (period_number period) row.old ≡ false }
+    ensures after { row.new ≡ divided_from running.old (period_number period) row.old }
     ensures stepped { RowStepped running.old row.old running.new }
 {
-    match divide_row(row, running, period) {
-        Some(next) => *row = next,
-        None => unreachable(),
-    }
+    *row = divide_row(row, running, period).unwrap();
 }
 
 // D, where no month volume would pass its limit.
@@ -133,9 +117,7 @@ fn check_rows(rows: &[GroupRow], split: Split, period: Period) -> Result<PricedV
 {
     let mut running = split.start();
     for row in rows {
-        let Some(_) = divide_row(row, &mut running, period) else {
-            return Err(Fault::LimitPassed(Limit::Volume));
-        };
+        divide_row(row, &mut running, period).ok_or(Fault::LimitPassed(Limit::Volume))?;
     }
     running.finish()
 }

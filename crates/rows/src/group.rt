@@ -1,10 +1,12 @@
 // What the book keeps of a group.
+ghost use Rattle.std.specs.Prelude.{◌≡◌};
+ghost use Rattle.rows.specs.Groups.{has_profile};
 
 // A BRP, a supplier or a loss party. Wide enough for the largest, and no wider than its field on the page, so that every row can be written there.
 pub type Party = u16;
 
 // Who is booked together: a BRP, a supplier and a class. Class 0 holds measured volumes.
-#[derive(Clone, Copy)]
+#[derive(Clone, Copy, PartialEq, Eq, PartialOrd, Ord)]
 pub struct Group {
     pub brp: Party,
     pub supplier: Party,
@@ -23,4 +25,13 @@ pub struct GroupRow {
     pub month: [i64; 4],
     // what its meters counted, in Wh
     pub real: [i64; 4],
+}
+
+impl GroupRow {
+    // Whether the group has a profile. Class 0 has none: its volumes are measured.
+    pub(crate) fn has_profile(&self) -> bool
+        ensures { result ≡ has_profile self.now }
+    {
+        self.group.class != 0
+    }
 }

@@ -2,34 +2,21 @@
 ghost use Rattle.std.specs.Prelude.{◌≡◌, ◌^◌, ◌<◌, true, false, Some, None};
 ghost use Rattle.rows.specs.Dividing.{held, unsigned, held_total, all_unsigned, adds_to};
 
+use crate::direction::ByDirection;
 use crate::group::GroupRow;
 
-// The weights of a row in each direction, in Wh.
-#[derive(Clone, Copy)]
-pub(crate) struct Held {
-    pub(crate) offtake: u64,
-    pub(crate) feed_in: u64,
-}
-
-// The weights of a row; none if one of them is negative.
-pub(crate) fn weights_of(row: &GroupRow) -> Option<Held>
+// The weights of a row in each direction, in Wh; none if one of them is negative.
+pub(crate) fn weights_of(row: &GroupRow) -> Option<ByDirection<u64>>
     ensures answer { elim result [ Some h ↦ (unsigned row.now ≡ true) × (h.offtake ≡ held row.now 0) × (h.feed_in ≡ held row.now 1) | None ↦ unsigned row.now ≡ false ] }
     ensures bound { elim result [ Some h ↦ (h.offtake < 2 ^ 63) × (h.feed_in < 2 ^ 63) | None ↦ Unit {0} ] }
 {
-    if row.group.class == 0 {
-        return Some(Held {
-            offtake: 0,
-            feed_in: 0,
-        });
+    if !row.has_profile() {
+        return Some(ByDirection::default());
     }
-    let offtake = row.quarter[0];
-    let feed_in = row.quarter[1];
-    if offtake < 0 || feed_in < 0 {
-        return None;
-    }
-    Some(Held {
-        offtake: offtake as u64,
-        feed_in: feed_in as u64,
+    let [offtake, feed_in] = row.quarter;
+    Some(ByDirection {
+        offtake: u64::try_from(offtake).ok()?,
+        feed_in: u64::try_from(feed_in).ok()?,
     })
 }
 
@@ -40,7 +27,7 @@ fn all_weights(rows: &[GroupRow]) -> Option<u128>
     let mut sum: u128 = 0;
     for row in rows {
         let held = weights_of(row)?;
-        sum += held.offtake as u128 + held.feed_in as u128;
+        sum += u128::from(held.offtake) + u128::from(held.feed_in);
     }
     Some(sum)
 }
@@ -49,8 +36,5 @@ fn all_weights(rows: &[GroupRow]) -> Option<u128>
 pub fn weights_hold(rows: &[GroupRow], total: u64) -> bool
     ensures { result ≡ adds_to total rows.now }
 {
-    match all_weights(rows) {
-        Some(sum) => sum == total as u128,
-        None => false,
-    }
+    all_weights(rows) == Some(u128::from(total))
 }

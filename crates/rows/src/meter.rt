@@ -1,12 +1,30 @@
 // What meters count between two stands.
 ghost use Rattle.std.specs.Prelude.{◌≡◌, ℕ, ◌+◌, ◌-◌, ◌%◌, ◌<◌, ◌≤◌, Some, None, slice_index};
 ghost use Rattle.rows.specs.Connections.{advance, digits_of, row_advance, span};
-ghost use Rattle.rows.specs.Metering.{meter_of};
+ghost use Rattle.rows.specs.Metering.{meter_of, MeterFound};
 ghost use Rattle.rows.specs.Registers.{four};
 
 use crate::connection::{ConnectionRow, Digits};
 
 const WH_PER_KWH: u64 = 1_000;
+
+// A number of digits that no meter shows.
+#[derive(Clone, Copy, PartialEq, Eq, Debug)]
+pub struct NoMeter(pub u64);
+
+impl TryFrom<u64> for Digits {
+    type Error = NoMeter;
+
+    ghost try_from_gives = { MeterFound };
+
+    fn try_from(count: u64) -> Result<Digits, NoMeter> {
+        match count {
+            5 => Ok(Digits::Five),
+            6 => Ok(Digits::Six),
+            _ => Err(NoMeter(count)),
+        }
+    }
+}
 
 impl Digits {
     // The meter of 5 or 6 digits; there is no other.
@@ -14,11 +32,7 @@ impl Digits {
         ensures value { result ≡ meter_of count }
         ensures digits { elim result [ Some digits ↦ digits ≡ digits_of count | None ↦ Unit {0} ] }
     {
-        match count {
-            5 => Some(Digits::Five),
-            6 => Some(Digits::Six),
-            _ => None,
-        }
+        Digits::try_from(count).ok()
     }
 
     // The stands that the meter can show are below this.
@@ -39,7 +53,8 @@ fn counted(span: u32, old: u32, new: u32) -> u64
     ensures value { result ≡ (new + span - old % span) % span }
     ensures bound { result < 1000000 }
 {
-    (new as u64 + span as u64 - (old % span) as u64) % span as u64
+    let span = u64::from(span);
+    (u64::from(new) + span - u64::from(old) % span) % span
 }
 
 // What a register counted, in Wh.
@@ -47,7 +62,7 @@ pub fn advance(digits: Digits, factor: u8, old: u32, new: u32) -> u64
     ensures value { result ≡ advance digits factor old new }
     ensures bound { result ≤ 254999745000 }
 {
-    counted(digits.span(), old, new) * factor as u64 * WH_PER_KWH
+    counted(digits.span(), old, new) * u64::from(factor) * WH_PER_KWH
 }
 
 impl ConnectionRow {
@@ -56,13 +71,6 @@ impl ConnectionRow {
         ensures value { result ≡ four (row_advance self.now stands.now) }
         ensures bound { (k : ℕ) → k < 4 → slice_index result k ≤ 254999745000 }
     {
-        let digits = self.digits;
-        let factor = self.factor;
-        [
-            advance(digits, factor, self.stands[0], stands[0]),
-            advance(digits, factor, self.stands[1], stands[1]),
-            advance(digits, factor, self.stands[2], stands[2]),
-            advance(digits, factor, self.stands[3], stands[3]),
-        ]
+        std::array::from_fn(|r| advance(self.digits, self.factor, self.stands[r], stands[r]))
     }
 }

@@ -1,40 +1,21 @@
 // The volumes of a month that is settled.
-ghost use Rattle.std.specs.Prelude.{◌≡◌, ◌+◌, ◌^◌, ◌<◌, ◌≤◌, not, ◌+ℤ◌, Ok, Err, unsigned_abs};
+ghost use Rattle.std.specs.Prelude.{◌≡◌, ◌≤◌, not, Ok, Err, unsigned_abs};
+ghost use Rattle.std.specs.List.{list_any};
 ghost use Rattle.fault.specs.Values.{period_number, register_number};
 ghost use Rattle.allocation.specs.Refusals.{Decided};
 ghost use Rattle.rows.specs.Dividing.{too_large};
 ghost use Rattle.rows.specs.Settling.{profiled_real, real_in, reconciliation, volume_passed};
-ghost use Rattle.rows.specs.RowAmounts.{register_passed, row_real, row_volume_passed, volume_refusal};
+ghost use Rattle.rows.specs.RowAmounts.{row_real, row_volume_passed, volume_refusal};
 
 use crate::group::GroupRow;
 use allocation::range::MOST_VOLUME;
-use fault::{Fault, Limit, Period, Register};
+use fault::{Direction, Fault, Limit, Period, Register};
 
-fn too_large(volume: i64) -> bool
+// Whether a volume is beyond its limit.
+pub(crate) fn too_large(volume: i64) -> bool
     ensures { result ≡ too_large volume }
 {
     volume.unsigned_abs() > MOST_VOLUME
-}
-
-// What the meters of the group counted in a register; of class 0 all is measured, so it is the month volume.
-fn real_at(row: &GroupRow, register: usize) -> i64
-    requires { register < 4 }
-    ensures { result ≡ real_in row.now register }
-{
-    if row.group.class == 0 {
-        row.month[register]
-    } else {
-        row.real[register]
-    }
-}
-
-// What a register counted beyond what was allocated to it.
-pub(crate) fn reconciled_at(row: &GroupRow, register: usize) -> i128
-    requires { register < 4 }
-    ensures value { result ≡ reconciliation row.now register }
-    ensures bound { unsigned_abs result ≤ 18446744073709551616 }
-{
-    real_at(row, register) as i128 - row.month[register] as i128
 }
 
 impl GroupRow {
@@ -42,7 +23,12 @@ impl GroupRow {
     pub fn real_volume(&self, register: Register) -> i64
         ensures { result ≡ real_in self.now (register_number register) }
     {
-        real_at(self, register.number() as usize)
+        let register = usize::from(register.number());
+        if self.has_profile() {
+            self.real[register]
+        } else {
+            self.month[register]
+        }
     }
 
     // What a register counted beyond what was allocated to it, in Wh.
@@ -50,38 +36,30 @@ impl GroupRow {
         ensures value { result ≡ reconciliation self.now (register_number register) }
         ensures bound { unsigned_abs result ≤ 18446744073709551616 }
     {
-        reconciled_at(self, register.number() as usize)
+        let allocated = self.month[usize::from(register.number())];
+        i128::from(self.real_volume(register)) - i128::from(allocated)
     }
 }
 
-// Whether the month or the real volume of a register is beyond its limit.
-fn register_passed(row: &GroupRow, register: usize) -> bool
-    requires { register < 4 }
-    ensures { result ≡ register_passed row.now register }
+// Whether some of four volumes is beyond its limit.
+fn some_too_large(volumes: &[i64; 4]) -> bool
+    ensures { result ≡ list_any too_large volumes.now }
 {
-    too_large(row.month[register]) || too_large(real_at(row, register))
+    volumes.iter().any(|volume| too_large(*volume))
 }
 
-// Whether some volume of a row is beyond its limit.
+// Whether some month or real volume of a row is beyond its limit.
 fn row_passed(row: &GroupRow) -> bool
     ensures { result ≡ row_volume_passed row.now }
 {
-    register_passed(row, 0)
-        || register_passed(row, 1)
-        || register_passed(row, 2)
-        || register_passed(row, 3)
+    some_too_large(&row.month) || row.has_profile() && some_too_large(&row.real)
 }
 
-// Whether some volume of the rows is beyond its limit.
+// Whether some volume of the rows is beyond its limit. A function of its own, since the check finds what `any` answers only where a contract says it.
 fn some_passed(rows: &[GroupRow]) -> bool
-    ensures { result ≡ volume_passed rows.now }
+    ensures { result ≡ list_any row_volume_passed rows.now }
 {
-    for row in rows {
-        if row_passed(row) {
-            return true;
-        }
-    }
-    false
+    rows.iter().any(row_passed)
 }
 
 // Whether every month and real volume of the rows is within its limit.
@@ -91,28 +69,22 @@ pub fn volumes_within(rows: &[GroupRow]) -> bool
     !some_passed(rows)
 }
 
-fn both(a: i64, b: i64) -> i128
-    ensures { result ≡ a +ℤ b }
-{
-    a as i128 + b as i128
-}
-
-// The real volumes of a profiled row in a period, both directions.
+// The real volumes of a row in a period, both directions, where it has a profile.
 fn real_net(row: &GroupRow, period: Period) -> i128
     ensures { result ≡ row_real (period_number period) row.now }
 {
-    if row.group.class == 0 {
+    if !row.has_profile() {
         return 0;
     }
-    let period = period.number() as usize;
-    both(real_at(row, period), real_at(row, 2 + period))
-}
-
-fn wide_sum(a: i128, b: i128) -> i128
-    requires { unsigned_abs a + unsigned_abs b ≤ 2 ^ 126 }
-    ensures { result ≡ a +ℤ b }
-{
-    a + b
+    let offtake = row.real_volume(Register {
+        direction: Direction::Offtake,
+        period,
+    });
+    let feed_in = row.real_volume(Register {
+        direction: Direction::FeedIn,
+        period,
+    });
+    i128::from(offtake) + i128::from(feed_in)
 }
 
 // The real volumes of the profiled rows in a period, both directions, in Wh. Refused if some volume is beyond its limit:
@@ -125,7 +97,7 @@ pub fn profiled_real(rows: &[GroupRow], period: Period) -> Result<i128, Fault>
         if row_passed(row) {
             return Err(Fault::LimitPassed(Limit::Volume));
         }
-        sum = wide_sum(sum, real_net(row, period));
+        sum += real_net(row, period);
     }
     Ok(sum)
 }

@@ -1,54 +1,26 @@
 -- All live rows rewritten where they stand, under the keys that they have. Assumes nothing.
-use Rattle.std.proofs.Common.{◌≡◌, ℕ, zero, suc, List, [], ◌∷◌, ◌++◌, map, length, get_or, take, drop, Ok, Err, Result, sym, refl, ap, ◌∙◌, subst, arith, length-append, length-drop, take-append-drop, length-take}
-use Rattle.std.proofs.lemmas.List.{drop_at, length-map}
+use Rattle.std.proofs.Common.{◌≡◌, ℕ, zero, suc, ◌≤◌, List, [], ◌∷◌, ◌++◌, map, length, get_or, take, drop, Ok, Err, Result, refl, ap, ◌∙◌, arith, length-take-le, take-append-drop}
+use mathlib.Core.HLevel.{is_prop→PathP}
+use mathlib.Core.Bool.{Bool-set}
+use Rattle.std.specs.Coded.{le_prop}
+use Rattle.std.proofs.lemmas.List.{length-map, take_at}
 use Rattle.fault.specs.declared.cause.Fault.{Fault}
 use Rattle.allocation.specs.Along.{along}
 use Rattle.tables.specs.declared.keyed.Table.{Table}
-use Rattle.tables.specs.Rules.{Rules}
-use Rattle.tables.specs.Tables.{Keeps, Sound, live, memory}
-use Rattle.tables.proofs.Memory.{take_live}
-use Rattle.tables.proofs.Outcomes.{Wrote}
+use Rattle.tables.specs.declared.row.Row as Row
+use Rattle.tables.specs.Rules.{Rules, Rising}
+use Rattle.tables.specs.Tables.{live, memory}
 
-take_front : {R : Type 0} (n : ℕ) (mem rows : List R) → length rows ≡ length (take n mem) → take n (rows ++ drop (length (take n mem)) mem) ≡ rows
-take_front zero mem [] long = refl
-take_front zero mem (row ∷ rows) long = absurd (omega arith)
-take_front (suc n) [] [] long = refl
-take_front (suc n) [] (row ∷ rows) long = absurd (omega arith)
-take_front (suc n) (x ∷ mem) [] long = absurd (omega arith)
-take_front (suc n) (x ∷ mem) (row ∷ rows) long = ap (λ l. row ∷ l) (take_front n mem rows (omega arith))
-
-pub front_live : {R K : Type 0} (t : Table R K) (n : ℕ) → n ≡ length (live t) → take n (memory t) ≡ live t
-front_live t n n-is = ap (λ m. take m (memory t)) n-is ∙ take_live t.len (memory t)
-
--- memory that holds what it held
-pub same_table : {R K : Type 0} (t : Table R K) (m : List R) → m ≡ memory t → ◌≡◌ {A = Table R K} (record { rows = record { ref_ptr = t.rows.ref_ptr; ghost_name = t.rows.ghost_name; now = m }; len = t.len }) t
-same_table {R} {K} t m e = ap (λ (l : List R). record { rows = record { ref_ptr = t.rows.ref_ptr; ghost_name = t.rows.ghost_name; now = l }; len = t.len }) e
-
-module _ {R K : Type 0} (t t' : Table R K) (rows : List R) (long : length rows ≡ length (live t)) (is : memory t' ≡ rows ++ drop (length (live t)) (memory t)) (counted : t'.len ≡ t.len) where
-  pub wrote_front : Wrote t t' rows
-  wrote_front =
-      let n = length (live t) in
-      let front : live t' ≡ rows = rw (counted, is) (take_front t.len (memory t) rows long) in
-      let count : length (live t') ≡ n = ap length front ∙ long in
-      record {
-        live_rows = front;
-        kept = record {
-          size = ap length is ∙ length-append rows (drop n (memory t)) ∙ omega (arith, long, length-drop n (memory t), length-take t.len (memory t));
-          beyond = rw (count, is) (drop_at rows (drop n (memory t)) n long);
-        };
-      }
+-- the memory after a change: rewritten by F, or, after a refusal, as it was
+abbrev pub Rewrites : {R A : Type 0} → (List R → List R) → List R → List R → Result A Fault → Type 0
+Rewrites F old new (Ok _) = new ≡ F old
+Rewrites F old new (Err _) = new ≡ old
 
 module _ {R K : Type 0} (rules : Rules R K) where
   -- at each place the key that the row there had
   pub record SameKeys (xs ys : List R) : Type 0 where
     pub long : length ys ≡ length xs
     pub keys : (i : ℕ) (d : R) → rules.key (get_or ys i d) ≡ rules.key (get_or xs i d)
-
-  pub sound_same : (t t' : Table R K) (rows : List R) → live t' ≡ rows → SameKeys (live t) rows → Sound rules t → Sound rules t'
-  sound_same t t' rows is same sound = record {
-    rising = rw is (λ i j d lt within. rw (same.keys i d, same.keys j d) (sound.rising i j d lt (omega (arith, same.long))));
-    within = rw is (omega (arith, same.long, sound.within));
-  }
 
   pub map_keys : (f : R → R) → ((x : R) → rules.key (f x) ≡ rules.key x) → (xs : List R) → SameKeys xs (map f xs)
   map_keys f same xs = record { long = length-map xs f; keys = at xs }
@@ -70,27 +42,32 @@ module _ {R K : Type 0} (rules : Rules R K) where
       at s (x ∷ xs) zero d = same s x
       at s (x ∷ xs) (suc i) d = at (next s x) xs i d
 
-  -- the first n rows of the memory, which are the live ones, rewritten by F
-  module _ (F : List R → List R) (same : (xs : List R) → SameKeys xs (F xs)) (t t' : Table R K) (n : ℕ) (n-is : n ≡ length (live t)) (is : memory t' ≡ F (take n (memory t)) ++ drop n (memory t)) (counted : t'.len ≡ t.len) where
-    pub rewrote : Wrote t t' (F (live t))
-    rewrote =
-        let front = front_live t n n-is in
-        wrote_front t t' (F (live t)) (same (live t)).long (is ∙ ap (λ l. F l ++ drop n (memory t)) front ∙ ap (λ m. F (live t) ++ drop m (memory t)) n-is) counted
+  module _ (mem new : List R) (len : ℕ) (within : len ≤ length mem) (same : SameKeys (take len mem) new) where
+    pub front : take len (new ++ drop len mem) ≡ new
+    front = take_at new (drop len mem) len (same.long ∙ length-take-le len mem within)
 
-    pub rewrote_sound : Sound rules t → Sound rules t'
-    rewrote_sound = sound_same t t' (F (live t)) rewrote.live_rows (same (live t))
+    pub rising_front : Rising rules (take len mem) → Rising rules (take len (new ++ drop len mem))
+    rising_front rising = rw front (λ i j d lt short. rw (same.keys i d, same.keys j d) (rising i j d lt (omega (arith, same.long))))
+
+  pub rewritten_keys : (F : List R → List R) → ((xs : List R) → SameKeys xs (F xs)) → (old new : List R) → {A : Type 0} (r : Result A Fault) → Rewrites F old new r → SameKeys old new
+  rewritten_keys F same old new (Ok a) is = rw is (same old)
+  rewritten_keys F same old new (Err e) is = rw is (record { long = refl; keys = λ i d. refl })
+
+module _ {R K : Type 0} {named : Row.Ghosts R K} where
+  -- a table is its memory and its length
+  same_table : (t t' : Table R K named) → t'.rows ≡ t.rows → t'.len ≡ t.len → t' ≡ t
+  same_table t t' r l = λ i. record {
+    rows = r i;
+    len = l i;
+    within = is_prop→PathP (λ j. l j ≤ length (r j).now) (λ j. le_prop) t'.within t.within i;
+    most = is_prop→PathP (λ j. l j ≤ named.rules.most) (λ j. le_prop) t'.most t.most i;
+    rising = is_prop→PathP (λ j. Rising named.rules (take (l j) (r j).now)) (λ j. hlevel Bool-set) t'.rising t.rising i;
+  }
 
   -- the live rows rewritten by F, or, after a refusal, nothing changed
-  module _ (F : List R → List R) (same : (xs : List R) → SameKeys xs (F xs)) (t t' : Table R K) (n : ℕ) (n-is : n ≡ length (live t)) (counted : t'.len ≡ t.len) (back : memory t' ≡ memory t → t' ≡ t) where
-    pub record Ends {A : Type 0} (r : Result A Fault) : Type 0 where
-      pub rows : elim r as (λ _. Type 0) [ Ok _ ↦ live t' ≡ F (live t) | Err _ ↦ t' ≡ t ]
-      pub kept : Keeps t t'
-      pub sound : Sound rules t → Sound rules t'
-
-    pub ends : {A : Type 0} (r : Result A Fault) → elim r as (λ _. Type 0) [ Ok _ ↦ memory t' ≡ F (take n (memory t)) ++ drop n (memory t) | Err _ ↦ memory t' ≡ take n (memory t) ++ drop n (memory t) ] → Ends r
-    ends (Ok a) is =
-        let wrote = rewrote F same t t' n n-is is counted in
-        record { rows = wrote.live_rows; kept = wrote.kept; sound = rewrote_sound F same t t' n n-is is counted }
-    ends (Err e) is =
-        let all = back (is ∙ take-append-drop n (memory t)) in
-        record { rows = all; kept = subst (Keeps t) (sym all) (record { size = refl; beyond = refl }); sound = subst (λ (x : Table R K). Sound rules t → Sound rules x) (sym all) (λ (s : Sound rules t). s) }
+  pub ends : (F : List R → List R) (same : (xs : List R) → SameKeys named.rules xs (F xs)) (t t' : Table R K named) (new : List R)
+      → t'.rows ≡ record { ref_ptr = t.rows.ref_ptr; ghost_name = t.rows.ghost_name; now = new ++ drop t.len (memory t) } → t'.len ≡ t.len
+      → {A : Type 0} (r : Result A Fault) → Rewrites F (live t) new r → elim r as (λ _. Type 0) [ Ok _ ↦ live t' ≡ F (live t) | Err _ ↦ t' ≡ t ]
+  ends F same t t' new r l (Ok a) is = ap (λ n. take n (memory t')) l ∙ ap (λ (m : _). take t.len m.now) r ∙ front named.rules (memory t) new t.len t.within (rw is (same (live t))) ∙ is
+  ends F same t t' new r l (Err e) is =
+      same_table t t' (r ∙ ap (λ (m : List R). record { ref_ptr = t.rows.ref_ptr; ghost_name = t.rows.ghost_name; now = m }) (ap (λ n. n ++ drop t.len (memory t)) is ∙ take-append-drop t.len (memory t))) l

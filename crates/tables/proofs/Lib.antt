@@ -1,5 +1,5 @@
 pub mod Finding
-mod Memory
+pub mod Memory
 pub mod Changes
 mod Outcomes
 mod Fronts

@@ -1,21 +1,8 @@
--- Live rows at the front of memory, and rows moved by one place. Assumes nothing.
-use Rattle.std.proofs.Common.{◌≡◌, ℕ, zero, suc, ◌+◌, ◌-◌, ◌<◌, ◌≤◌, min, List, [], ◌∷◌, ◌++◌, length, take, drop, set, Some, None, Option, sym, refl, ap, ◌∙◌, add-one, arith, length-take, Bor}
+-- Rows moved by one place in memory. Assumes nothing.
+use Rattle.std.proofs.Common.{◌≡◌, ℕ, suc, ◌+◌, ◌-◌, ◌<◌, ◌≤◌, List, [], ◌∷◌, ◌++◌, length, take, drop, set, sym, ap, ◌∙◌, add-one, arith}
 use lib.Seq.{paste}
-use Rattle.std.specs.Option.{option_map}
-use Rattle.std.specs.Slice.{IsGetResult}
-use Rattle.std.specs.List.{insert, remove, slice_get}
+use Rattle.std.specs.List.{insert, remove}
 use Rattle.std.proofs.lemmas.List.{append_assoc, drop_all, drop-take, length-append, length-take-le, set-append_left, set_split, take-take}
-use Rattle.std.proofs.lemmas.Option.{slice_get_past, slice_get_read}
-
--- the front of memory that is live, by its own length
-pub take_live : {R : Type 0} (n : ℕ) (mem : List R) → take (length (take n mem)) mem ≡ take n mem
-take_live zero mem = refl
-take_live (suc n) [] = refl
-take_live (suc n) (row ∷ mem) = ap (λ rows. row ∷ rows) (take_live n mem)
-
--- as many rows as the count says and the memory has
-pub take_clamped : {R : Type 0} (n : ℕ) (mem : List R) → take (min n (length mem)) mem ≡ take n mem
-take_clamped n mem = ap (λ m. take m mem) (sym (length-take n mem)) ∙ take_live n mem
 
 module _ {R : Type 0} (mem : List R) (len place : ℕ) where
   pub opened : (row : R) → place ≤ len → len < length mem → set (paste mem (place + 1) (drop place mem) (len - place)) place row ≡ insert (take len mem) place row ++ drop (len + 1) mem
@@ -45,8 +32,3 @@ module _ {R : Type 0} (mem : List R) (len place : ℕ) where
       let shifted : drop (place + 1) (take len mem) ≡ take (len - (place + 1)) (drop (place + 1) mem) =
       ap (λ n. drop (place + 1) (take n mem)) (sym whole) ∙ drop-take (place + 1) (len - (place + 1)) mem in
       rw (last, take-take place len mem (omega arith), ← add-one place, shifted)
-
--- what a read of a slice by place answers
-pub read_at : {R : Type 0} (rows : List R) (place : ℕ) (r : Option (Bor R)) → IsGetResult rows place place r → option_map (λ x. x.now) r ≡ slice_get rows place
-read_at rows place None item = sym (slice_get_past rows place item.3)
-read_at rows place (Some row) item = sym (slice_get_read rows (length rows) place row.now refl item.3.0 item.1)

@@ -58,13 +58,7 @@ impl Row for GroupRow {
     }
 
     fn before(a: &Group, b: &Group) -> bool {
-        if a.brp != b.brp {
-            return a.brp < b.brp;
-        }
-        if a.supplier != b.supplier {
-            return a.supplier < b.supplier;
-        }
-        a.class < b.class
+        a < b
     }
 
     fn most() -> usize {

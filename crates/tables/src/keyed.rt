@@ -1,24 +1,27 @@
 // The keyed table: rows in strictly rising key order at the front of lent memory.
-ghost use Rattle.std.specs.Prelude.{◌≡◌, ◌<◌, ◌≤◌, [], length, IfOk, Ok, OnErr};
+ghost use Rattle.std.specs.Prelude.{◌≡◌, ◌<◌, ◌≤◌, [], length, take, IfOk, Ok, OnErr};
 ghost use Rattle.std.specs.Option.{option_map};
 ghost use Rattle.std.specs.List.{slice_get};
-ghost use Rattle.tables.specs.Rules.{Found, PlaceWithin};
-ghost use Rattle.tables.specs.Tables.{Free, Inserted, Inserts, Keeps, Places, Removed, Removes, Replaced, Replaces, Seeks, Sound, live, memory};
+ghost use Rattle.tables.specs.Rules.{Found, PlaceWithin, Rising};
 
 use crate::row::Row;
-use crate::search::{find_row, first_rows, read_at};
+use crate::search::find_row;
 use crate::shift::{close_at, open_at, put_at};
 use fault::Fault;
 
-// The first `len` rows are live. Only this crate can reach the fields, and `len` never passes the memory;
-// `rows` lends no more than there is, so that every method is safe whatever the fields hold.
+// The first `len` rows are live, in the order of their keys. A length beside a slice, since the memory is the caller's and the table allocates nothing.
 #[derive(Drop)]
 pub struct Table<'a, R: Row> {
     pub(crate) rows: &'a mut [R],
     pub(crate) len: usize,
+    ghost within: { len ≤ length rows.now },
+    ghost most: { len ≤ R.rules.most },
+    ghost rising: { Rising R.rules (take len rows.now) },
 }
 
 impl<'a, R: Row> Table<'a, R> {
+    ghost use Rattle.tables.specs.Tables.{Inserted, Inserts, Places, Removed, Removes, Replaced, Replaces, Seeks, Sound, Stays, live, memory};
+
     // A table with no row over the lent memory.
     pub fn new(rows: &'a mut [R]) -> Table<'a, R>
         ensures sound { Sound R.rules result }
@@ -33,8 +36,9 @@ impl<'a, R: Row> Table<'a, R> {
     pub fn rows(&self) -> &[R]
         ensures rows { result.now ≡ live self.now }
         ensures within { length result.now ≤ length (memory self.now) }
+        ensures sound { Sound R.rules self.now }
     {
-        first_rows(self.rows, self.len)
+        &self.rows[..self.len]
     }
 
     // The number of live rows.
@@ -49,13 +53,13 @@ impl<'a, R: Row> Table<'a, R> {
     pub fn get(&self, place: usize) -> Option<&R>
         ensures { option_map (λ x. x.now) result ≡ slice_get (live self.now) place }
     {
-        read_at(self.rows(), place)
+        self.rows().get(place)
     }
 
     // The place of the row with the key, or else the place where such a row would go.
     pub fn find(&self, wanted: &R::Key) -> Result<usize, usize>
         ensures within { PlaceWithin (live self.now) result }
-        ensures found { Sound R.rules self.now → Found R.rules (live self.now) wanted.now result }
+        ensures found { Found R.rules (live self.now) wanted.now result }
     {
         find_row(self.rows(), wanted)
     }
@@ -63,24 +67,19 @@ impl<'a, R: Row> Table<'a, R> {
     // The place of the row with the key, or the fault that no row has it.
     pub fn seek(&self, wanted: &R::Key) -> Result<usize, Fault>
         ensures within { IfOk result (λ place. place < length (live self.now)) }
-        ensures sought { Sound R.rules self.now → Seeks R.rules self.now wanted.now result }
+        ensures sought { Seeks R.rules self.now wanted.now result }
     {
-        match self.find(wanted) {
-            Ok(place) => Ok(place),
-            Err(_) => Err(R::absent(wanted)),
-        }
+        self.find(wanted).map_err(|_| R::absent(wanted))
     }
 
     // The place for a row with the key, or the fault why none goes in.
     fn place_for(&self, wanted: &R::Key) -> Result<usize, Fault>
-        ensures free { IfOk result (λ place. Free R.rules self.now place) }
-        ensures places { Sound R.rules self.now → Places R.rules self.now wanted.now result }
+        ensures { Places R.rules self.now wanted.now result }
     {
-        let room = R::most().min(self.rows.len());
         match self.find(wanted) {
             Ok(_) => Err(R::present(wanted)),
             Err(place) => {
-                if self.len() < room {
+                if self.len < R::most().min(self.rows.len()) {
                     Ok(place)
                 } else {
                     Err(R::full(wanted))
@@ -92,10 +91,8 @@ impl<'a, R: Row> Table<'a, R> {
     // Puts a row in, at the place of its key, which is the answer. Refused if a row has the key already, or else if there is no place.
     pub fn insert(&mut self, row: R) -> Result<usize, Fault>
         ensures refused { OnErr result (self.new ≡ self.old) }
-        ensures kept { Keeps self.old self.new }
-        ensures sound { Sound R.rules self.old → Sound R.rules self.new }
-        ensures inserted { Sound R.rules self.old → Inserts R.rules self.old row result self.new }
-        ensures lent { self.new.rows.ghost_name ≡ self.old.rows.ghost_name }
+        ensures stays { Stays R.rules self.old self.new }
+        ensures inserted { Inserts R.rules self.old row result self.new }
     {
         let place = self.place_for(&row.key())?;
         self.add_at(place, row);
@@ -105,10 +102,8 @@ impl<'a, R: Row> Table<'a, R> {
     // Takes the row with the key out, and answers it. Refused if no row has the key.
     pub fn remove(&mut self, wanted: &R::Key) -> Result<R, Fault>
         ensures refused { OnErr result (self.new ≡ self.old) }
-        ensures kept { Keeps self.old self.new }
-        ensures sound { Sound R.rules self.old → Sound R.rules self.new }
-        ensures removed { Sound R.rules self.old → Removes R.rules self.old wanted.now result self.new }
-        ensures lent { self.new.rows.ghost_name ≡ self.old.rows.ghost_name }
+        ensures stays { Stays R.rules self.old self.new }
+        ensures removed { Removes R.rules self.old wanted.now result self.new }
     {
         let place = self.seek(wanted)?;
         Ok(self.take_at(place))
@@ -117,10 +112,8 @@ impl<'a, R: Row> Table<'a, R> {
     // Puts a row in the place of the one with its key, and answers that one. Refused if no row has the key.
     pub fn replace(&mut self, row: R) -> Result<R, Fault>
         ensures refused { OnErr result (self.new ≡ self.old) }
-        ensures kept { Keeps self.old self.new }
-        ensures sound { Sound R.rules self.old → Sound R.rules self.new }
-        ensures replaced { Sound R.rules self.old → Replaces R.rules self.old row result self.new }
-        ensures lent { self.new.rows.ghost_name ≡ self.old.rows.ghost_name }
+        ensures stays { Stays R.rules self.old self.new }
+        ensures replaced { Replaces R.rules self.old row result self.new }
     {
         let place = self.seek(&row.key())?;
         Ok(self.exchange_at(place, row))
@@ -136,40 +129,32 @@ impl<'a, R: Row> Table<'a, R> {
         self.len = 0;
     }
 
-    // Puts a row in at its place: the rows from there on move up.
+    // Puts a row in at its place: the rows from there on move up, and only then one more is live.
     fn add_at(&mut self, place: usize, row: R)
-        requires { Free R.rules self.old place }
-        ensures kept { Keeps self.old self.new }
-        ensures sound { Sound R.rules self.old → Places R.rules self.old (R.rules.key row) (Ok place) → Sound R.rules self.new }
-        ensures inserted { Sound R.rules self.old → Places R.rules self.old (R.rules.key row) (Ok place) → Inserted R.rules self.old row place self.new }
-        ensures lent { self.new.rows.ghost_name ≡ self.old.rows.ghost_name }
+        requires { Places R.rules self.old (R.rules.key row) (Ok place) }
+        ensures stays { Stays R.rules self.old self.new }
+        ensures inserted { Inserted R.rules self.old row place self.new }
     {
-        let len = self.len();
-        open_at(self.rows, len, place, row);
-        self.len = len + 1;
+        open_at(self.rows, self.len, place, row);
+        self.len += 1;
     }
 
-    // Takes the row at a place out: the rows above it move down.
+    // Takes the row at a place out: one less is live, and then the rows above it move down.
     fn take_at(&mut self, place: usize) -> R
         requires { place < length (live self.old) }
-        ensures kept { Keeps self.old self.new }
-        ensures sound { Sound R.rules self.old → Sound R.rules self.new }
-        ensures removed { Sound R.rules self.old → (k : R.Key) → Seeks R.rules self.old k (Ok place) → Removed R.rules self.old k result self.new }
-        ensures lent { self.new.rows.ghost_name ≡ self.old.rows.ghost_name }
+        ensures stays { Stays R.rules self.old self.new }
+        ensures removed { (k : R.Key) → Seeks R.rules self.old k (Ok place) → Removed R.rules self.old k result self.new }
     {
-        let len = self.len();
-        let row = close_at(self.rows, len, place);
+        let len = self.len;
         self.len = len - 1;
-        row
+        close_at(self.rows, len, place)
     }
 
     // Puts a row over the one at a place, which has its key.
     fn exchange_at(&mut self, place: usize, row: R) -> R
-        requires { place < length (live self.old) }
-        ensures kept { Keeps self.old self.new }
-        ensures sound { Sound R.rules self.old → Seeks R.rules self.old (R.rules.key row) (Ok place) → Sound R.rules self.new }
-        ensures replaced { Sound R.rules self.old → Seeks R.rules self.old (R.rules.key row) (Ok place) → Replaced R.rules self.old row result self.new }
-        ensures lent { self.new.rows.ghost_name ≡ self.old.rows.ghost_name }
+        requires { Seeks R.rules self.old (R.rules.key row) (Ok place) }
+        ensures stays { Stays R.rules self.old self.new }
+        ensures replaced { Replaced R.rules self.old row result self.new }
     {
         put_at(self.rows, place, row)
     }

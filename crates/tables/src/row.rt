@@ -6,7 +6,7 @@ use fault::Fault;
 
 // A row has a key, and keys have a total order. A table keeps its rows in that order, each key once.
 // An impl gives the rules as a definition in specs, a function for each of them, and the proof that its keys are
-// `ordered`, which at numbers and tuples of numbers is the search alone.
+// `ordered`, which at numbers and derived orders of numbers is the search alone.
 pub trait Row: Copy {
     type Key: Copy;
 
@@ -15,7 +15,7 @@ pub trait Row: Copy {
     fn key(&self) -> Self::Key
         ensures { result ≡ rules.key self.now };
 
-    // Whether `a` comes before `b`.
+    // Whether `a` comes before `b`: mostly `a < b`, but keys may be kept in another order than their own.
     fn before(a: &Self::Key, b: &Self::Key) -> bool
         ensures { result ≡ rules.less a.now b.now };
 

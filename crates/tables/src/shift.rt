@@ -2,7 +2,10 @@
 ghost use Rattle.std.specs.Prelude.{◌≡◌, ◌+◌, ◌-◌, ◌<◌, ◌≤◌, ◌++◌, length, take, drop, slice_index_or, slice_set};
 ghost use Rattle.std.specs.List.{insert, remove};
 
+use std::mem;
+
 // Puts a row at the place: the live rows from there on move up by one.
+#[tactic(auto, using(crate::proofs::Memory::opened))]
 pub(crate) fn open_at<R: Copy>(rows: &mut [R], len: usize, place: usize, row: R)
     requires among { place ≤ len }
     requires room { len < length rows.old }
@@ -13,6 +16,7 @@ pub(crate) fn open_at<R: Copy>(rows: &mut [R], len: usize, place: usize, row: R)
 }
 
 // Takes the row at the place out, which is the answer: the live rows above it move down by one.
+#[tactic(auto, using(crate::proofs::Memory::closed))]
 pub(crate) fn close_at<R: Copy>(rows: &mut [R], len: usize, place: usize) -> R
     requires among { place < len }
     requires within { len ≤ length rows.old }
@@ -30,7 +34,5 @@ pub(crate) fn put_at<R: Copy>(rows: &mut [R], place: usize, row: R) -> R
     ensures row { result ≡ slice_index_or rows.old place result }
     ensures after { rows.new ≡ slice_set rows.old place row }
 {
-    let old = rows[place];
-    rows[place] = row;
-    old
+    mem::replace(&mut rows[place], row)
 }

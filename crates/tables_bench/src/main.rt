@@ -63,40 +63,25 @@ fn row_with(code: u64) -> Wide {
 }
 
 // How many of n rows go in, each key the next multiple of the stride.
-fn fill(table: &mut Table<'_, Wide>, n: u64, stride: u64) -> u64
+fn fill(table: &mut Table<'_, Wide>, n: u64, stride: u64) -> usize
     requires { 0 < n }
 {
-    let mut done = 0u64;
-    for i in 0..n {
-        if table.insert(row_with(i.wrapping_mul(stride) % n)).is_ok() {
-            done = done.wrapping_add(1);
-        }
-    }
-    done
+    (0..n)
+        .filter(|i| table.insert(row_with(i.wrapping_mul(stride) % n)).is_ok())
+        .count()
 }
 
 fn look(table: &Table<'_, Wide>, n: u64) -> u64
     requires { 0 < n }
 {
-    let mut done = 0u64;
-    for i in 0..n {
-        if let Ok(place) = table.seek(&(i.wrapping_mul(STRIDE) % n)) {
-            if let Some(row) = table.get(place) {
-                done = done.wrapping_add(row.rest[7]);
-            }
-        }
-    }
-    done
+    (0..n)
+        .filter_map(|i| table.seek(&(i.wrapping_mul(STRIDE) % n)).ok())
+        .filter_map(|place| table.get(place))
+        .fold(0u64, |sum, row| sum.wrapping_add(row.rest[7]))
 }
 
-fn drain(table: &mut Table<'_, Wide>, n: u64) -> u64 {
-    let mut done = 0u64;
-    for i in (0..n).rev() {
-        if table.remove(&i).is_ok() {
-            done = done.wrapping_add(1);
-        }
-    }
-    done
+fn drain(table: &mut Table<'_, Wide>, n: u64) -> usize {
+    (0..n).rev().filter(|i| table.remove(i).is_ok()).count()
 }
 
 fn run(rt: &HostRuntime) -> io::Result<()> {

@@ -1,3 +1,4 @@
 pub mod Bytes
+pub mod Orders
 pub mod Rows
 pub mod Texts

@@ -1,9 +1,8 @@
 // Three kinds of row. Each gives its key, the order of its keys and its faults, and nothing of the table is proved again.
 ghost use Rattle.tables_demo.specs.Rows.{group_rules, label_rules, meter_rules};
 ghost use Rattle.std.proofs.Common.{rules};
-ghost use Rattle.tables_demo.specs.Texts.{text_irreflexive, text_total, text_transitive};
+ghost use Rattle.tables_demo.specs.Texts.{text_order};
 
-use crate::bytes::bytes_before;
 use fault::{Code, Fault, Position, TableKind};
 use tables::Row;
 
@@ -46,7 +45,7 @@ impl Row for Meter {
 }
 
 // Compared part by part: by responsible party, then by supplier, then by class.
-#[derive(Clone, Copy, PartialEq, Eq, Debug)]
+#[derive(Clone, Copy, PartialEq, Eq, PartialOrd, Ord, Debug)]
 pub struct GroupKey {
     pub brp: u64,
     pub supplier: u64,
@@ -71,13 +70,7 @@ impl Row for Group {
     }
 
     fn before(a: &GroupKey, b: &GroupKey) -> bool {
-        if a.brp != b.brp {
-            a.brp < b.brp
-        } else if a.supplier != b.supplier {
-            a.supplier < b.supplier
-        } else {
-            a.class < b.class
-        }
+        a < b
     }
 
     fn most() -> usize {
@@ -108,14 +101,14 @@ impl Row for Label {
 
     ghost rules = { label_rules };
 
-    ghost ordered = { record { irreflexive = text_irreflexive; transitive = text_transitive; total = text_total } };
+    ghost ordered = { text_order };
 
     fn key(&self) -> [u8; 16] {
         self.text
     }
 
     fn before(a: &[u8; 16], b: &[u8; 16]) -> bool {
-        bytes_before(a, b)
+        a.cmp(b).is_lt()
     }
 
     fn most() -> usize {

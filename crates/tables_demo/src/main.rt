@@ -1,7 +1,6 @@
 // The keyed table at three kinds of row: keyed by a number, by a triple, by sixteen bytes of text.
 #![tactic(auto)]
 
-mod bytes;
 mod kinds;
 mod uses;
 
@@ -60,8 +59,7 @@ fn meters(rt: &HostRuntime) -> io::Result<()> {
         println!(rt; "{row:?}")?;
     }
     table.empty();
-    let left = table.len();
-    println!(rt; "emptied: {left} rows")
+    println!(rt; "emptied: {} rows", table.len())
 }
 
 // The memory that a table was lent is the lender's again.
@@ -109,14 +107,10 @@ fn labels(rt: &HostRuntime) -> io::Result<()> {
         Err(fault) => println!(rt; "dropped: {fault}")?,
     }
     for row in table.rows() {
-        let n = row.number;
-        println!(rt; "label {n}")?;
+        println!(rt; "label {}", row.number)?;
     }
     match table.get(2) {
-        Some(row) => {
-            let n = row.number;
-            println!(rt; "third: {n}")
-        }
+        Some(row) => println!(rt; "third: {}", row.number),
         None => println!(rt; "third: none"),
     }
 }

@@ -1,10 +1,6 @@
 use Rattle.std.proofs.Common.{arith}
-use Rattle.rows.specs.Groups.{cleared}
-use Rattle.rows.proofs.InPlace.{map_turn, map_end}
+use Rattle.rows.proofs.InPlace.{map_turn}
 use Rattle.rows.proofs.clear.clear_quarters.Goals as goal
 
 pub loop-row-preserved : goal.loop-row-preserved
-loop-row-preserved c = map_turn cleared _ _ _ (omega arith) c.loop-row.invariant _ _ c.loop-row-test.true c.clear_quarter.ensures
-
-pub returns : goal.returns
-returns c = map_end cleared _ _ _ (omega arith) c.loop-row.invariant c.loop-row-test.false
+loop-row-preserved c = map_turn _ _ _ _ (omega arith) c.loop-row.invariant _ _ c.loop-row-test.true c.clear_quarter.ensures

@@ -1,38 +1,24 @@
-use Rattle.std.proofs.Common.{arith}
-use Rattle.std.proofs.lemmas.List.{get_or_read}
+use Rattle.std.proofs.Common.{arith, ap, sym, ◌∙◌, is_some}
+use Rattle.std.proofs.lemmas.Bool.{ltb-false}
 use Rattle.tables.proofs.Finding.{after_from, belongs, stands}
 use Rattle.tables.proofs.search.find_row.Goals as goal
 
-pub returns-then-place-rows : goal.returns-then-place-rows
-returns-then-place-rows g c =
+pub returns-in-Some-clause-found : goal.returns-in-Some-clause-found
+returns-in-Some-clause-found g c rising =
     let first = c.first_not_before-place.ensures in
-    record {
-      within = first.within;
-      found = λ rising. belongs g.R.Row.rules g.met.R.Row.ordered _ _ _ first.within (first.below rising) (λ i d le lt. absurd (omega arith));
-    }
+    let here = c.in-Some.ensures.lookup.3 in
+    stands g.R.Row.rules g.met.R.Row.ordered _ _ _ here.0 (first.below rising) (λ d.
+    let row = here.1 d in
+    g.met.R.Row.ordered.total _ _ (first.above rising _ d (omega arith) here.0) (cc))
 
-pub returns-then-before : goal.returns-then-before
-returns-then-before g c =
+pub returns-in_default-clause-found : goal.returns-in_default-clause-found
+returns-in_default-clause-found g c rising =
     let first = c.first_not_before-place.ensures in
-    let rules = g.R.Row.rules in
-    let order = g.met.R.Row.ordered in
-    record {
-      within = first.within;
-      found = λ rising.
-          belongs rules order _ _ _ first.within (first.below rising)
-          (after_from rules order c.args.rows.now c.args.wanted.now _ c.index-rows-place.result rising (omega arith) c.index-rows-place.is (cc));
-    }
+    let here = c.in-Some.ensures.lookup in
+    belongs g.R.Row.rules g.met.R.Row.ordered _ _ _ first.within (first.below rising)
+    (after_from g.R.Row.rules g.met.R.Row.ordered _ c.args.wanted.now _ c.in-Some.row.now rising here.3.0 here.1 (cc))
 
-pub returns-else-before : goal.returns-else-before
-returns-else-before g c =
+pub returns-in_default-2-clause-found : goal.returns-in_default-2-clause-found
+returns-in_default-2-clause-found g c rising =
     let first = c.first_not_before-place.ensures in
-    let rules = g.R.Row.rules in
-    let order = g.met.R.Row.ordered in
-    record {
-      within = omega arith;
-      found = λ rising.
-          stands rules order _ _ _ (omega arith) (first.below rising)
-          (λ d.
-          let here = get_or_read _ c.first_not_before-place.result c.index-rows-place.result (omega arith) c.index-rows-place.is d in
-          order.total _ _ (first.above rising _ d (omega arith) (omega arith)) (cc));
-    }
+    belongs g.R.Row.rules g.met.R.Row.ordered _ _ _ first.within (first.below rising) (λ i d le lt. absurd (omega (arith, ltb-false _ _ (sym c.get.ensures.lookup.0 ∙ ap is_some c.in_default.is))))

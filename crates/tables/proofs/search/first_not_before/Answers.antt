@@ -1,13 +1,14 @@
-use Rattle.std.proofs.Common.{arith}
-use Rattle.tables.proofs.Finding.{before_up_to, none_before_from}
+use Rattle.std.proofs.Common.{rules, arith}
+use Rattle.std.proofs.lemmas.List.Sorted.{IsPartitionPoint-from_clause}
+use Rattle.tables.proofs.Finding.{parted}
 use Rattle.tables.proofs.search.first_not_before.Goals as goal
 
-pub loop-low-preserved-then-before : goal.loop-low-preserved-then-before
-loop-low-preserved-then-before g c =
-    let inv = c.loop-low.invariant in
-    (omega arith, inv.1, λ rising. before_up_to g.R.Row.rules g.met.R.Row.ordered c.args.rows.now c.args.wanted.now _ c.index-rows-middle.result rising (omega arith) c.index-rows-middle.is (cc), inv.3)
+pub returns-clause-below : goal.returns-clause-below
+returns-clause-below g c rising i d lt =
+    let key = g.R.Row.rules.key in
+    (IsPartitionPoint-from_clause (λ row. g.R.Row.rules.less (key row) c.args.wanted.now) _ _ c.partition_point.ensures.partitioned (parted g.R.Row.rules g.met.R.Row.ordered _ c.args.wanted.now rising) (λ a r q k. search rules)).0 i d (omega arith) lt
 
-pub loop-low-preserved : goal.loop-low-preserved
-loop-low-preserved g c =
-    let inv = c.loop-low.invariant in
-    (omega arith, omega arith, inv.2, λ rising. none_before_from g.R.Row.rules g.met.R.Row.ordered c.args.rows.now c.args.wanted.now _ c.index-rows-middle.result rising (omega arith) c.index-rows-middle.is (cc))
+pub returns-clause-above : goal.returns-clause-above
+returns-clause-above g c rising i d le lt =
+    let key = g.R.Row.rules.key in
+    (IsPartitionPoint-from_clause (λ row. g.R.Row.rules.less (key row) c.args.wanted.now) _ _ c.partition_point.ensures.partitioned (parted g.R.Row.rules g.met.R.Row.ordered _ c.args.wanted.now rising) (λ a r q k. search rules)).1 i d le lt

@@ -14,10 +14,10 @@ returns c =
     let next : SFits w64 c.in_ok-next.next = search rules in
     let a : SFits w64 c.value_of-after.result = search rules in
     let b : SFits w64 c.value_of-before.result = search rules in
-    let d : SFits w64 c.difference.result = search rules in
+    let d : SFits w64 (c.value_of-after.result -ℤ c.value_of-before.result) = search rules in
     let told = rw (to_z-of_z w64 _ c.ranges.volume) at c.in_ok-next.ensures in
     let next-is = to_z-of_z w64 _ next ∙ told.1 in
-    let after = to_z-of_z w64 _ a ∙ c.value_of-after.ensures.value ∙ ap (value_at p) next-is in
-    let before = to_z-of_z w64 _ b ∙ c.value_of-before.ensures.value ∙ ap (value_at p) (to_z-of_z w64 _ total) in
-    let amount : ◌≡◌ _ (amount_of p self.total v) = to_z-of_z w64 _ d ∙ c.difference.ensures ∙ (λ i. after i -ℤ before i) in
+    let after = c.value_of-after.ensures.value ∙ ap (value_at p) next-is in
+    let before = c.value_of-before.ensures.value ∙ ap (value_at p) (to_z-of_z w64 _ total) in
+    let amount : ◌≡◌ _ (amount_of p self.total v) = rw (to_z-of_z w64 _ a, to_z-of_z w64 _ b) (to_z-of_z w64 _ d ∙ (λ i. after i -ℤ before i)) in
     record { answer = (told.0, (amount, next-is, refl)); near = rw amount (amount_near p self.total v) }

@@ -1,28 +1,23 @@
-use Rattle.std.proofs.Common.{◌≡◌, List, map, refl, subst}
+use Rattle.std.proofs.Common.{refl}
 use Rattle.fault.specs.Values.{period_number}
-use Rattle.allocation.specs.Refusals.{Decided}
-use Rattle.rows.specs.declared.group.GroupRow.{GroupRow}
-use Rattle.rows.specs.Counting.{row_residual, split_refused}
-use Rattle.rows.specs.Weighing.{weighed, weights_net, weights_total}
 use Rattle.tables.specs.BookRows.{group_rules}
-use Rattle.tables.proofs.Fronts.{map_keys, ends, front_live, same_table}
+use Rattle.tables.specs.Tables.{live}
+use Rattle.tables.proofs.Fronts.{ends, map_keys, rewritten_keys, rising_front}
 use Rattle.tables.proofs.Weighed.{weighed_group}
 use Rattle.tables.proofs.group_rows.Table+GroupRow.weigh_rows.Goals as goal
 
-pub returns : goal.returns
-returns g c =
+pub invariant_of-self-clause-rising : goal.invariant_of-self-clause-rising
+invariant_of-self-clause-rising g c =
     let t = c.args.self.now in
-    let meaning = g.S.ProfileSource.means c.args.source.now in
-    let quarter = c.args.quarter in
-    let p = period_number c.args.period in
-    let posted = c.args.posted in
-    let told = c.weigh_front.ensures in
-    let keys = map_keys group_rules (weighed meaning quarter p) (weighed_group meaning quarter p) in
-    let done = ends group_rules (map (weighed meaning quarter p)) keys t _ c.len-len.result c.len-len.ensures.rows refl (same_table t _) c.weigh_front.result told.rows in
-    record {
-      answer = subst (λ (l : List GroupRow). Decided (split_refused meaning quarter p posted l) c.weigh_front.result (λ w. (w.net ≡ weights_net meaning quarter p l) × (w.split.total ≡ weights_total meaning quarter p l) × (w.split.residual ≡ row_residual meaning quarter p posted l))) (front_live t _ c.len-len.ensures.rows) told.answer;
-      rows = done.rows;
-      kept = done.kept;
-      sound = done.sound;
-      lent = refl;
-    }
+    let w = c.args.weighing.now in
+    let meaning = g.S.ProfileSource.means w.source.now in
+    let keys = map_keys group_rules _ (weighed_group meaning w.quarter (period_number w.period)) in
+    rising_front group_rules t.rows.now _ t.len t.within (rewritten_keys group_rules _ keys (live t) _ c.weigh.result c.weigh.ensures.rows) t.rising
+
+pub returns-clause-rows : goal.returns-clause-rows
+returns-clause-rows g c =
+    let t = c.args.self.now in
+    let w = c.args.weighing.now in
+    let meaning = g.S.ProfileSource.means w.source.now in
+    let keys = map_keys group_rules _ (weighed_group meaning w.quarter (period_number w.period)) in
+    ends _ keys t _ _ refl refl c.weigh.result c.weigh.ensures.rows

@@ -1,17 +1,10 @@
-use Rattle.std.proofs.Common.{refl, arith}
-use Rattle.tables.proofs.Outcomes.{inserted_outcome, sound_inserted, wrote_inserted}
+use Rattle.std.proofs.Common.{◌<◌, length, arith, length-take-le}
+use Rattle.tables.proofs.Outcomes.{front_inserted, inserted_outcome}
 use Rattle.tables.proofs.keyed.Table.add_at.Goals as goal
 
-pub returns : goal.returns
-returns g c =
-    let rules = g.R.Row.rules in
-    let order = g.met.R.Row.ordered in
+pub returns-clause-inserted : goal.returns-clause-inserted
+returns-clause-inserted g c =
     let t = c.args.self.now in
-    let place = c.args.place in
-    let wrote = wrote_inserted t _ c.len-len.result place c.len-len.ensures.rows c.args.row c.requires.among (omega (arith, c.requires.room)) c.open_at.ensures refl in
-    record {
-      kept = wrote.kept;
-      sound = λ sound places. sound_inserted rules order t _ place sound c.args.row wrote.live_rows places c.requires.below_most;
-      inserted = λ sound places. inserted_outcome rules order t _ place sound c.args.row wrote.live_rows places;
-      lent = refl;
-    }
+    let long = length-take-le t.len t.rows.now t.within in
+    let room : t.len < length t.rows.now = grind (arith, c.requires.0, long) in
+    inserted_outcome g.met.R.Row.ordered t _ c.args.place _ (front_inserted t.rows.now _ t.len c.args.place c.args.row (omega (arith, c.requires.1.within)) room c.open_at.ensures) c.requires

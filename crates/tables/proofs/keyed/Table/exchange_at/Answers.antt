@@ -1,23 +1,18 @@
-use Rattle.std.proofs.Common.{refl, arith, length-take}
-use Rattle.tables.proofs.Outcomes.{read_live, replaced_outcome, sound_set, wrote_set}
+use Rattle.std.proofs.Common.{arith, length-take-le}
+use Rattle.tables.proofs.Changes.{rising_set}
+use Rattle.tables.proofs.Outcomes.{front_set, replaced_outcome}
 use Rattle.tables.proofs.keyed.Table.exchange_at.Goals as goal
 
-pub put_at-requires : goal.put_at-requires
-put_at-requires g c =
+pub invariant_of-self-clause-rising : goal.invariant_of-self-clause-rising
+invariant_of-self-clause-rising g c =
     let t = c.args.self.now in
-    omega (arith, c.requires, length-take t.len t.rows.now)
+    let long = length-take-le t.len t.rows.now t.within in
+    let s = c.requires.1 in
+    rw (front_set t.rows.now _ t.len c.args.place c.args.row (omega (arith, s.within)) c.put_at.ensures.after) (rising_set g.R.Row.rules g.met.R.Row.ordered _ c.args.row c.args.place t.rising s)
 
-pub returns : goal.returns
-returns g c =
-    let rules = g.R.Row.rules in
-    let order = g.met.R.Row.ordered in
+pub returns-clause-replaced : goal.returns-clause-replaced
+returns-clause-replaced g c =
     let t = c.args.self.now in
-    let place = c.args.place in
-    let wrote = wrote_set t _ place c.args.row c.requires c.put_at.ensures.after refl in
-    let was = read_live t place _ c.requires c.put_at.ensures.row in
-    record {
-      kept = wrote.kept;
-      sound = λ sound seeks. sound_set rules order t _ place sound c.args.row _ wrote.live_rows was seeks;
-      replaced = λ sound seeks. replaced_outcome rules order t _ place sound c.args.row _ wrote.live_rows was seeks;
-      lent = refl;
-    }
+    let long = length-take-le t.len t.rows.now t.within in
+    let s = c.requires.1 in
+    replaced_outcome g.met.R.Row.ordered t _ c.args.place _ _ (front_set t.rows.now _ t.len c.args.place c.args.row (omega (arith, s.within)) c.put_at.ensures.after) c.put_at.ensures.row c.requires

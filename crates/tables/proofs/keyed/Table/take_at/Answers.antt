@@ -1,18 +1,16 @@
-use Rattle.std.proofs.Common.{refl}
-use Rattle.tables.proofs.Outcomes.{read_live, removed_outcome, sound_removed, wrote_removed}
+use Rattle.std.proofs.Common.{arith, length-take-le}
+use Rattle.tables.proofs.Changes.{rising_removed}
+use Rattle.tables.proofs.Outcomes.{front_removed, removed_outcome}
 use Rattle.tables.proofs.keyed.Table.take_at.Goals as goal
 
-pub returns : goal.returns
-returns g c =
-    let rules = g.R.Row.rules in
-    let order = g.met.R.Row.ordered in
+pub invariant_of-self-2-clause-rising : goal.invariant_of-self-2-clause-rising
+invariant_of-self-2-clause-rising g c =
     let t = c.args.self.now in
-    let place = c.args.place in
-    let wrote = wrote_removed t _ c.len-len.result place c.len-len.ensures.rows c.requires c.len-len.ensures.within c.close_at-row.ensures.after refl in
-    let was = read_live t place _ c.requires c.close_at-row.ensures.row in
-    record {
-      kept = wrote.kept;
-      sound = λ sound. sound_removed rules order t _ place sound wrote.live_rows c.requires;
-      removed = λ sound k seeks. removed_outcome rules order t _ place sound wrote.live_rows k c.close_at-row.result was seeks;
-      lent = refl;
-    }
+    let long = length-take-le t.len t.rows.now t.within in
+    rw (front_removed t.rows.now _ t.len c.args.place (omega (arith, c.requires)) t.within c.close_at.ensures.after) (rising_removed g.R.Row.rules g.met.R.Row.ordered _ c.args.place t.rising c.requires)
+
+pub returns-clause-removed : goal.returns-clause-removed
+returns-clause-removed g c =
+    let t = c.args.self.now in
+    let long = length-take-le t.len t.rows.now t.within in
+    removed_outcome g.met.R.Row.ordered t _ c.args.place _ (front_removed t.rows.now _ t.len c.args.place (omega (arith, c.requires)) t.within c.close_at.ensures.after) c.close_at.ensures.row
