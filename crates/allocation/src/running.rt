@@ -30,7 +30,7 @@ fn volume_of(direction: Direction, weight: u64, correction: i64) -> i64
     profiled(direction, weight) + correction
 }
 
-// The total of one direction, with one volume more. No match that changes one of the two totals: its proof would have the joined pair to take apart.
+// The total of one direction, with one volume more. Tried as a match that adds to one of two totals: what `step` keeps and promises did not close where the branches meet.
 fn gathered(wanted: Direction, total: i64, direction: Direction, volume: i64) -> i64
     requires { unsigned_abs total + unsigned_abs volume ≤ 8000000000 }
     ensures { result ≡ total +ℤ part wanted direction volume }
@@ -110,7 +110,8 @@ impl Running {
         Corrected { correction, volume }
     }
 
-    // What one weight more of the line gets; a weight past T is not of this line.
+    // What one weight more of the line gets; a weight past T is not of this line. Direction and weight are two parameters,
+    // since a row has its weights by direction and a pair would only be made for the call.
     pub fn correct(&mut self, direction: Direction, weight: u64) -> Result<Corrected, Fault>
         ensures answer { Decided (step_refusal self.old.split.total self.old.passed weight) result (λ c. Stepped self.old direction weight c self.new) }
         ensures near { elim result [ Ok c ↦ Near self.old.split.total c.volume (exact self.old.split.total self.old.split.residual direction weight) | Err e ↦ self.new ≡ self.old ] }

@@ -13,7 +13,7 @@ pub enum Layer {
     Stream = 4,
 }
 
-// A fault as the numbers that the bytes of a fault record hold, and not as kinds: `Fault` has those. Unused places are 0.
+// A fault as a fault record holds it: number and places are plain numbers, since that is what its bytes are, and `Fault` has the cause itself. Unused places are 0.
 #[derive(Clone, Copy, PartialEq, Eq, Debug)]
 pub struct Notice {
     pub number: u8,
@@ -31,6 +31,7 @@ impl From<Layer> for u8 {
     }
 }
 
+// The conversion by the name that callers have for it.
 impl Layer {
     pub fn number(self) -> u8
         ensures { result ≡ layer_number self }

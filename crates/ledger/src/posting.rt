@@ -2,9 +2,6 @@
 ghost use Rattle.std.specs.Prelude.{◌≡◌};
 ghost use Rattle.ledger.specs.Postings.{Numbers, posting_number, numbered_kind};
 
-use std::error::Error;
-use std::fmt;
-
 // Exchange with other grids, measured volumes and grid losses, each with its way.
 #[derive(Clone, Copy, PartialEq, Eq, Debug)]
 pub enum PostingKind {
@@ -46,14 +43,7 @@ impl TryFrom<u8> for PostingKind {
     }
 }
 
-impl fmt::Display for UnknownPosting {
-    fn fmt<W: fmt::Write>(&self, f: &mut fmt::Formatter<W>) -> fmt::Result {
-        write!(f, "no kind of posting has number {}", self.0)
-    }
-}
-
-impl Error for UnknownPosting {}
-
+// The two conversions by the names that callers have for them.
 impl PostingKind {
     pub fn number(self) -> u8
         ensures { result ≡ posting_number self }

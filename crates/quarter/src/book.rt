@@ -59,7 +59,7 @@ fn read(heap: Global, text: &str) -> Result<Input, Stop>
     Ok(input)
 }
 
-// Whether one row's group comes before another's. It has a contract of its own, which says what the derived order of groups is.
+// Whether one row's group comes before another's: the derived order, in a function whose contract says what it is. Tried in place, an edit of it failed in its proof and not here.
 fn comes_before(a: &Row, b: &Row) -> bool
     ensures { result ≡ before a.now b.now }
 {

@@ -15,7 +15,9 @@ pub(crate) enum Lack {
 pub(crate) fn take_apart<K: Kind>(bytes: &[u8]) -> Result<(K, &[u8], &[u8]), Lack>
     ensures { TakesApart K.number_of K.kinds K.layout bytes.now result }
 {
-    let (first, behind) = bytes.split_first().ok_or(Lack::End)?;
+    let [first, behind @ ..] = bytes else {
+        return Err(Lack::End);
+    };
     let kind = K::of_number(*first).ok_or(Lack::Unknown)?;
     let (body, rest) = behind.split_at_checked(kind.length()).ok_or(Lack::Cut)?;
     Ok((kind, body, rest))

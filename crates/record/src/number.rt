@@ -6,7 +6,7 @@ ghost use Rattle.record.specs.Kinds.{each, four_of};
 
 use crate::field::Held;
 
-// The number that `width` bytes of the body write, from the place `at` on.
+// The number that `width` bytes of the body write, from the place `at` on. A loop, since `from_be_bytes` takes eight bytes, into which a narrower field would be copied first.
 fn number(body: &[u8], at: usize, width: usize) -> u64
     requires { (at + width ≤ length body.now) × (width ≤ 8) }
     ensures bytes { take width (drop at body.now) ≡ big width result }

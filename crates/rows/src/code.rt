@@ -26,7 +26,7 @@ fn weighted_by(weights: &[u64; 17], code: u64) -> u64
     sum + code % 10
 }
 
-// The digits of a code times the weights of a code. The loop stands apart, for weights of any value: with the seventeen numbers in its goal the check does not find its step.
+// The digits of a code times the weights of a code. Tried as one function with the loop: with the seventeen numbers in its goal the check does not find the step.
 fn weighted_digits(code: u64) -> u64
     ensures { result ≡ weighted_digits digit_weights code }
 {

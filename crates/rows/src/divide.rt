@@ -134,7 +134,8 @@ fn divide_each(rows: &mut [GroupRow], split: Split, period: Period)
     }
 }
 
-// Shares R out along the rows that T was taken from, adds what each gets to its month volumes, and answers D.
+// Shares R out along the rows that T was taken from, adds what each gets to its month volumes, and answers D. Split and period are two parameters:
+// the one comes of the weighing, the other of the opening, and they meet only here.
 // Refused for rows of another quarter, or else if a month volume would pass its limit; the rows stay as they were then.
 pub fn divide_rows(
     rows: &mut [GroupRow],

@@ -19,7 +19,8 @@ pub struct GroupRow {
     pub group: Group,
     // standard year volumes of its connections, in kWh
     pub standing: [u64; 4],
-    // within a quarter, in Wh: of class 0 what was posted; else the weights, and after the division the corrected volumes
+    // within a quarter, in Wh: of class 0 what was posted; else the weights, and after the division the corrected volumes.
+    // An array like the others, which are by register: the definitions of months read all four by number.
     pub quarter: [i64; 2],
     // what was allocated to it over the month, in Wh
     pub month: [i64; 4],

@@ -27,7 +27,7 @@ impl TryFrom<u64> for Digits {
 }
 
 impl Digits {
-    // The meter of 5 or 6 digits; there is no other.
+    // The meter of 5 or 6 digits; there is no other. It is the conversion by the name that callers have for it.
     pub fn from_count(count: u64) -> Option<Digits>
         ensures value { result ≡ meter_of count }
         ensures digits { elim result [ Some digits ↦ digits ≡ digits_of count | None ↦ Unit {0} ] }

@@ -55,7 +55,7 @@ fn row_passed(row: &GroupRow) -> bool
     some_too_large(&row.month) || row.has_profile() && some_too_large(&row.real)
 }
 
-// Whether some volume of the rows is beyond its limit. A function of its own, since the check finds what `any` answers only where a contract says it.
+// Whether some volume of the rows is beyond its limit. Tried inside `volumes_within`: the check did not find there what `any` answers.
 fn some_passed(rows: &[GroupRow]) -> bool
     ensures { result ≡ list_any row_volume_passed rows.now }
 {

@@ -65,13 +65,14 @@ impl Row for GroupRow {
         MOST_GROUPS
     }
 
-    // No entry puts a group in twice, and one that is needed and not there is another book's.
-    fn present(_: &Group) -> Fault {
+    // One that is needed and not there is another book's.
+    fn absent(_: &Group) -> Fault {
         Fault::ForeignTables
     }
 
-    fn absent(_: &Group) -> Fault {
-        Fault::ForeignTables
+    // No entry puts a group in twice: one that is there already is another book's too.
+    fn present(group: &Group) -> Fault {
+        Self::absent(group)
     }
 
     fn full(_: &Group) -> Fault {

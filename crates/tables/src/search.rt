@@ -7,8 +7,7 @@ use crate::row::Row;
 // The place of the first row whose key is not before `wanted`; the number of rows if there is none.
 fn first_not_before<R: Row>(rows: &[R], wanted: &R::Key) -> usize
     ensures within { result ≤ length rows.now }
-    ensures below { Rising R.rules rows.now → AllBefore R.rules rows.now wanted.now result }
-    ensures above { Rising R.rules rows.now → NoneBefore R.rules rows.now wanted.now result }
+    ensures split { Rising R.rules rows.now → AllBefore R.rules rows.now wanted.now result × NoneBefore R.rules rows.now wanted.now result }
 {
     rows.partition_point(|row| R::before(&row.key(), wanted))
 }

@@ -1,4 +1,4 @@
-// Rows moved up or down by one place, in lent memory of which the first `len` rows are live.
+// Rows moved up or down by one place, in lent memory of which the first `len` rows are live: a length beside a slice as in the table, whose memory it is.
 ghost use Rattle.std.specs.Prelude.{◌≡◌, ◌+◌, ◌-◌, ◌<◌, ◌≤◌, ◌++◌, length, take, drop, slice_index_or, slice_set};
 ghost use Rattle.std.specs.List.{insert, remove};
 

@@ -44,7 +44,7 @@ impl Row for Meter {
     }
 }
 
-// Compared part by part: by responsible party, then by supplier, then by class.
+// Compared part by part: by responsible party, then by supplier, then by class. A key of this program's own, as any program can have one.
 #[derive(Clone, Copy, PartialEq, Eq, PartialOrd, Ord, Debug)]
 pub struct GroupKey {
     pub brp: u64,
@@ -108,6 +108,7 @@ impl Row for Label {
     }
 
     fn before(a: &[u8; 16], b: &[u8; 16]) -> bool {
+        // not `a < b`: tried, and its contract did not close against the order of texts
         a.cmp(b).is_lt()
     }
 

@@ -3,12 +3,8 @@ use Rattle.std.proofs.lemmas.List.Sorted.{IsPartitionPoint-from_clause}
 use Rattle.tables.proofs.Finding.{parted}
 use Rattle.tables.proofs.search.first_not_before.Goals as goal
 
-pub returns-clause-below : goal.returns-clause-below
-returns-clause-below g c rising i d lt =
+pub returns-clause-split : goal.returns-clause-split
+returns-clause-split g c rising =
     let key = g.R.Row.rules.key in
-    (IsPartitionPoint-from_clause (λ row. g.R.Row.rules.less (key row) c.args.wanted.now) _ _ c.partition_point.ensures.partitioned (parted g.R.Row.rules g.met.R.Row.ordered _ c.args.wanted.now rising) (λ a r q k. search rules)).0 i d (omega arith) lt
-
-pub returns-clause-above : goal.returns-clause-above
-returns-clause-above g c rising i d le lt =
-    let key = g.R.Row.rules.key in
-    (IsPartitionPoint-from_clause (λ row. g.R.Row.rules.less (key row) c.args.wanted.now) _ _ c.partition_point.ensures.partitioned (parted g.R.Row.rules g.met.R.Row.ordered _ c.args.wanted.now rising) (λ a r q k. search rules)).1 i d le lt
+    let point = IsPartitionPoint-from_clause (λ row. g.R.Row.rules.less (key row) c.args.wanted.now) _ _ c.partition_point.ensures.partitioned (parted g.R.Row.rules g.met.R.Row.ordered _ c.args.wanted.now rising) (λ a r q k. search rules) in
+    (λ i d lt. point.0 i d (omega arith) lt, λ i d le lt. point.1 i d le lt)
