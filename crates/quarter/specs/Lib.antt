@@ -1,4 +1,5 @@
 pub mod Bounds
+pub mod Bytes
 pub mod Meaning
 pub mod Postings
 pub mod Rows

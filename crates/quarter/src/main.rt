@@ -8,14 +8,26 @@ mod postings;
 mod refusal;
 mod report;
 mod show;
+mod text;
 
-use std::io;
+use book::book;
+use refusal::Stop;
+use report::Report;
+use std::alloc::Global;
+use std::io::{self, Read};
 use std::process::ExitCode;
+use text::text_of;
+
+// Books the quarter that bytes describe, if they are a text.
+fn book_bytes(heap: Global, bytes: &[u8]) -> Result<Report, Stop> {
+    book(heap, text_of(bytes)?)
+}
 
 fn main(rt: HostRuntime) -> io::Result<ExitCode> {
     let heap = rt.alloc();
-    let text = io::read_to_string(heap, rt.stdin())?;
-    match book::book(heap, text.as_str()) {
+    let mut bytes = Vec::new(heap);
+    rt.stdin().read_to_end(&mut bytes)?;
+    match book_bytes(heap, bytes.as_slice()) {
         Ok(report) => {
             print!(rt; "{report}")?;
             Ok(ExitCode::SUCCESS)

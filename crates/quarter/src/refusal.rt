@@ -16,6 +16,8 @@ pub enum Reason {
     NotANumber(u8),
     // the number at this place is outside its range
     OutOfRange(u8),
+    // bytes that are no text
+    NotText,
     // the group was given on an earlier line
     GroupTwice,
     // the quarter cannot be divided
@@ -76,6 +78,7 @@ impl fmt::Display for Reason {
             Reason::WrongForm => write!(f, "these words make no line of this kind"),
             Reason::NotANumber(place) => write!(f, "word {place} is no whole number"),
             Reason::OutOfRange(place) => write!(f, "word {place} is out of range"),
+            Reason::NotText => write!(f, "these bytes are no text"),
             Reason::GroupTwice => write!(f, "this group was given on an earlier line"),
             Reason::Quarter(fault) => write!(f, "{fault} (refusal {})", fault.notice().number),
         }
