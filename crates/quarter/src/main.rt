@@ -1,6 +1,8 @@
 // One quarter-hour of a grid area, from standard input: what the profile gave each group, the residual, and what each group got.
 #![tactic(auto)]
 
+ghost use Rattle.quarter.specs.Bytes.{ReportsBytes};
+
 mod book;
 mod input;
 mod parse;
@@ -19,7 +21,9 @@ use std::process::ExitCode;
 use text::text_of;
 
 // Books the quarter that bytes describe, if they are a text.
-fn book_bytes(heap: Global, bytes: &[u8]) -> Result<Report, Stop> {
+fn book_bytes(heap: Global, bytes: &[u8]) -> Result<Report, Stop>
+    ensures { ReportsBytes bytes.now result }
+{
     book(heap, text_of(bytes)?)
 }
 

@@ -1,5 +1,6 @@
 // The text that bytes are.
 ghost use Rattle.std.specs.Prelude.{◌≡◌, MatchResult};
+ghost use Rattle.std.specs.Str.{IsUtf8};
 ghost use Rattle.quarter.specs.Bytes.{line_ends, line_of_no_text};
 ghost use Rattle.quarter.specs.declared.refusal.Reason.TheVariants.{NotText};
 
@@ -15,7 +16,7 @@ fn line_ends(bytes: &[u8]) -> usize
 
 // The text, or the line with the first bytes that are none.
 pub(crate) fn text_of(bytes: &[u8]) -> Result<&str, Refusal>
-    ensures { MatchResult result (λ text. text.now ≡ bytes.now) (λ e. e ≡ record { line = line_of_no_text bytes.now; reason = NotText }) }
+    ensures { MatchResult result (λ text. (text.now ≡ bytes.now) × IsUtf8 bytes.now) (λ e. ¬ (IsUtf8 bytes.now) × (e ≡ record { line = line_of_no_text bytes.now; reason = NotText })) }
 {
     str::from_utf8(bytes).map_err(|e| {
         let whole = &bytes[..e.valid_up_to()];
