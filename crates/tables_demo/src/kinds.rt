@@ -107,6 +107,7 @@ impl Row for Label {
         self.text
     }
 
+    #[tactic(auto, using(crate::specs::Texts::text_compared))]
     fn before(a: &[u8; 16], b: &[u8; 16]) -> bool {
         // not `a < b`: tried, and its contract did not close against the order of texts
         a.cmp(b).is_lt()
