@@ -110,9 +110,13 @@ unfolding correction_of share
 size_grows t before w (pos n) = let h : n * before / t ≤ n * (before + w) / t = quotient_grows t _ _ (mul-le-mul_left n (omega arith)) in omega (arith, ints)
 size_grows t before w (negsuc n) = let h : suc n * before / t ≤ suc n * (before + w) / t = quotient_grows t _ _ (mul-le-mul_left (suc n) (omega arith)) in omega (arith, ints)
 
--- what a running split has given out stays within T and |R|, and so within their limits
-pub given_within : (p : Running) → nat_abs p.offtake + nat_abs p.feed_in ≤ 4000000000
-given_within p = omega (arith, share_within p.split.total p.passed p.split.residual p.within, p.bounded, p.split.few, p.split.small)
+-- what a running split has given out stays within T and |R|
+pub given_within : (t passed : ℕ) (r o f : ℤ) → passed ≤ t → nat_abs o + nat_abs f ≤ passed + nat_abs (share t r passed) → nat_abs o + nat_abs f ≤ t + nat_abs r
+given_within t passed r o f h b = omega (arith, share_within t passed r h)
+
+-- and so within their limits
+pub given_limited : (p : Running) → nat_abs p.offtake + nat_abs p.feed_in ≤ 4000000000
+given_limited p = omega (arith, given_within p.split.total p.passed p.split.residual p.offtake p.feed_in p.within p.bounded, p.split.few, p.split.small)
 
 pub given_grows : (t passed w : ℕ) (r o f v : ℤ) (d : Direction) → nat_abs o + nat_abs f ≤ passed + nat_abs (share t r passed) → nat_abs v ≤ w + nat_abs (correction_of t r passed w) → nat_abs (o +ℤ part Offtake d v) + nat_abs (f +ℤ part FeedIn d v) ≤ passed + w + nat_abs (share t r (passed + w))
 given_grows t passed w r o f v Offtake h k = omega (arith, ints, size_grows t passed w r)

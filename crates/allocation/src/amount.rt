@@ -1,5 +1,6 @@
 // Prices and amounts of a settled month.
-ghost use Rattle.std.specs.Prelude.{◌≡◌, ◌+◌, ◌*◌, ◌<◌, ◌≤◌, pos, ◌+ℤ◌, ◌*ℤ◌, Some, None, Ok, Err, unsigned_abs};
+ghost use Rattle.std.specs.Prelude.{◌≡◌, ◌+◌, ◌*◌, ◌<◌, ◌≤◌, pos, ◌+ℤ◌, ◌*ℤ◌, ◌<ℤ◌, Some, None, Ok, Err, unsigned_abs};
+ghost use Rattle.std.specs.Int.{int_div_euclid};
 ghost use Rattle.allocation.specs.Refusals.{Decided};
 ghost use Rattle.allocation.specs.Scale.{most_quarters};
 ghost use Rattle.allocation.specs.Settling.{Floor, price_of, value_at, amount_of, total_refusal, Cent};
@@ -17,6 +18,14 @@ fn worth(priced: PricedVolume, price: Price) -> i64
     ensures bound { unsigned_abs result ≤ priced.wh * 500000 }
 {
     priced.wh as i64 * price.cents
+}
+
+// A quotient rounded down, towards minus infinity.
+fn floored(dividend: i64, divisor: i64) -> i64
+    requires { pos 0 <ℤ divisor }
+    ensures { result ≡ int_div_euclid dividend divisor }
+{
+    dividend.div_euclid(divisor)
 }
 
 impl PriceSums {
@@ -57,7 +66,7 @@ impl PriceSums {
             return Price { cents: 0 };
         }
         Price {
-            cents: self.value.div_euclid(self.volume as i64),
+            cents: floored(self.value, self.volume as i64),
         }
     }
 }
@@ -68,7 +77,7 @@ fn value_of(price: Price, total: i64) -> i64
     ensures value { result ≡ value_at price.cents total }
     ensures bound { unsigned_abs result ≤ 6500000000000 }
 {
-    (total * price.cents).div_euclid(WH_PER_MWH)
+    floored(total * price.cents, WH_PER_MWH)
 }
 
 impl Settling {

@@ -85,12 +85,23 @@ pub fn wide_weight(fraction: Fraction, kwh: u64) -> u128
     rounded(u128::from(fraction.parts()) * u128::from(kwh))
 }
 
-// What the profile gives a group in one direction of a quarter, in Wh. It is `wide_weight` in the narrower type that a sum within its limit allows,
-// so that whoever has one need not bound the answer again.
+// `rounded` in the narrower type that a sum within its limit allows.
+fn rounded_wh(parts: u64) -> u64
+    requires { parts ≤ 10000000000000000 }
+    ensures value { result ≡ (parts + unit / 2) / unit }
+    ensures nearest { Nearest parts result }
+    ensures bound { result ≤ 100000000000 }
+{
+    (parts + UNIT / 2) / UNIT
+}
+
+// What the profile gives a group in one direction of a quarter, in Wh: the number that `wide_weight` gives, so that whoever has a sum
+// within its limit need not bound the answer again. It is worked out here in 64 bits, and not taken from `wide_weight`,
+// since a division of 128 bits takes several times as long.
 pub fn weight(fraction: Fraction, sum: StandingSum) -> u64
     ensures value { result ≡ weight_of fraction.parts sum.kwh }
     ensures nearest { Nearest (fraction.parts * sum.kwh) result }
     ensures bound { result ≤ 100000000000 }
 {
-    wide_weight(fraction, sum.kwh()) as u64
+    rounded_wh(u64::from(fraction.parts()) * sum.kwh())
 }

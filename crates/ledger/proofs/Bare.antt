@@ -1,5 +1,5 @@
 -- What a row holds within a quarter, and that nothing is booked to a group that no entry named. Assumes nothing.
-use Rattle.std.proofs.Common.{◌≡◌, ℕ, ◌+◌, ◌/◌, ◌%◌, ◌<◌, true, false, cond, eqb, List, [], ◌∷◌, ℤ, pos, ◌+ℤ◌, refl, ap, ◌∙◌, arith}
+use Rattle.std.proofs.Common.{◌≡◌, ℕ, ◌+◌, ◌/◌, ◌%◌, ◌<◌, true, false, cond, eqb, List, [], ◌∷◌, ℤ, pos, ◌+ℤ◌, sym, refl, ap, ◌∙◌, arith}
 use Rattle.std.proofs.lemmas.Bool.{both_ways, cond_both, false_from_ne_true, ltb-false}
 use Rattle.allocation.specs.Correction.{corrected}
 use Rattle.rows.specs.declared.group.Group.{Group}
@@ -8,7 +8,7 @@ use Rattle.rows.specs.Groups.{group_named}
 use Rattle.tables.specs.BookRows.{group_rules}
 use Rattle.tables.specs.Rules.{same}
 use Rattle.tables.proofs.Finding.{same_equal}
-use Rattle.ledger.specs.Events.{Event, History, reads, opens, posts, weighs, divides, withdraws, moved, turned, turn_refused, phase, slip}
+use Rattle.ledger.specs.Events.{Event, History, Phase, reads, opens, posts, weighs, divides, withdraws, moved, turned, turn_refused, phase, between, gathering, slip, settled}
 use Rattle.ledger.specs.Histories.{Start, Admitted, turn_checks}
 use Rattle.ledger.specs.Keys.{listed, listing, Ahead}
 use Rattle.ledger.specs.Postings.{measured}
@@ -38,6 +38,16 @@ holds_posted (turned divides ∷ h) g d z = rw z
 holds_posted (turned withdraws ∷ h) g d z = refl
 holds_posted (e ∷ h) g d z = holds_posted h g d z
 
+-- the states are apart
+abbrev phase_number : Phase → ℕ
+phase_number between = 0
+phase_number gathering = 1
+phase_number slip = 2
+phase_number settled = 3
+
+pub apart : (a b : Phase) (p : Phase) → p ≡ a → p ≡ b → (phase_number a ≡ phase_number b → ⊥) → ⊥
+apart a b p x y differ = differ (ap phase_number (sym x ∙ y))
+
 -- while a slip is out, the profiled groups hold their weights
 pub holds_weights : (s : Start) (h : History) → Admitted s h → phase h ≡ slip → (g : Group) (d : ℕ) → eqb g.class 0 ≡ false → holds h g d ≡ pos (weight h g d)
 holds_weights s (turned (weighs m) ∷ h) a out g d z = rw z
@@ -51,7 +61,7 @@ period_small s (turned (opens p c) ∷ h) a = let l = ltb-false 1 p (quiet _ _ (
 period_small s (e ∷ h) a = period_small s h a.0
 
 -- a group that is not known now was not known before
-unknown_before : (e : Event) (h : History) (g : Group) → listed group_rules g (known (e ∷ h)) ≡ false → listed group_rules g (known h) ≡ false
+pub unknown_before : (e : Event) (h : History) (g : Group) → listed group_rules g (known (e ∷ h)) ≡ false → listed group_rules g (known h) ≡ false
 unknown_before e h g u = false_from_ne_true _ (λ t. both_ways _ u (known_stays e h g t))
 
 pub gets_unlisted : (t : ℕ) (r : ℤ) (w : Group → ℕ → ℕ) (before : ℕ) (ks : List Group) (g : Group) (d : ℕ) → listed group_rules g ks ≡ false → gets t r w before ks g d ≡ pos 0

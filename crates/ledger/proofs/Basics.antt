@@ -54,6 +54,9 @@ two_read f d r h = grind arith
 pub two_same : {A : Type 0} (f g : ℕ → A) → ((r : ℕ) → r < 2 → f r ≡ g r) → two f ≡ two g
 two_same f g e = grind arith
 
+pub no_register : (f : ℕ → Bool) → any_register f ≡ false → (r : ℕ) → r < 4 → f r ≡ false
+no_register f e r h = grind arith
+
 pub all_registers : (f : ℕ → Bool) → ((r : ℕ) → r < 4 → f r ≡ false) → any_register f ≡ false
 all_registers f e = grind arith
 

@@ -98,12 +98,15 @@ wrote_small s h a out g d l =
     part_size (suc (suc d)) l z = absurd (omega arith)
     part_size d l z = rw z (omega arith)
 
+pub half_small : (r : ℕ) → r < 4 → r / 2 < 2
+half_small r l = omega arith
+
 pub divide_size : (b : Bool) (x y : ℤ) (n : ℕ) → nat_abs x ≤ n * most_booked → nat_abs y ≤ most_booked → nat_abs (cond b (x +ℤ y) x) ≤ (n + 1) * most_booked
 divide_size b x y n l k = grind (arith, sum_size x y)
 
 pub allocated_within : (s : Start) (h : History) → Admitted s h → (g : Group) (r : ℕ) → r < 4 → nat_abs (allocated h g r) ≤ done h * most_booked
 allocated_within s [] a g r l = omega arith
-allocated_within s (turned divides ∷ h) a g r l = divide_size (eqb (r % 2) (period_now h)) (allocated h g r) (wrote h g (r / 2)) (done h) (allocated_within s h a.0 g r l) (wrote_small s h a.0 a.1 g (r / 2) (omega arith))
+allocated_within s (turned divides ∷ h) a g r l = divide_size (eqb (r % 2) (period_now h)) (allocated h g r) (wrote h g (r / 2)) (done h) (allocated_within s h a.0 g r l) (wrote_small s h a.0 a.1 g (r / 2) (half_small r l))
 allocated_within s (e ∷ h) a g r l = allocated_within s h a.0 g r l
 
 -- the size of a profiled group's allocated volumes in a period

@@ -145,12 +145,14 @@ Closed h p = exchange_in h p +ℤ losses_in h p +ℤ net (allocated_at h p) (kno
 bare_allocated : (h : History) (p : ℕ) (g : Group) → listed group_rules g (known h) ≡ false → allocated_at h p g ≡ pos 0
 bare_allocated h p g u = λ i. allocated_bare h g (register 0 p) u i +ℤ allocated_bare h g (register 1 p) u i
 
+pub of_register : (d p : ℕ) → d < 2 → p < 2 → (register d p % 2 ≡ p) × (register d p / 2 ≡ d)
+of_register d p l k = (omega arith, omega arith)
+
 -- what a divide adds to an allocated volume
 pub divide_adds : (h : History) (g : Group) (d p : ℕ) → d < 2 → p < 2 → allocated (turned divides ∷ h) g (register d p) ≡ cond (eqb (period_now h) p) (allocated h g (register d p) +ℤ wrote h g d) (allocated h g (register d p))
 divide_adds h g d p l k =
-    let period : register d p % 2 ≡ p = omega arith in
-    let direction : register d p / 2 ≡ d = omega arith in
-    rw (period, direction) (ap (λ b. cond b (allocated h g (register d p) +ℤ wrote h g d) (allocated h g (register d p))) (turned_round p (period_now h)))
+    let e = of_register d p l k in
+    rw (e.0, e.1) (ap (λ b. cond b (allocated h g (register d p) +ℤ wrote h g d) (allocated h g (register d p))) (turned_round p (period_now h)))
   where
     turned_round : (n m : ℕ) → eqb n m ≡ eqb m n
     turned_round n m = grind (arith, nat_tests)

@@ -35,7 +35,7 @@ module _ {R K : Type 0} (rules : Rules R K) (order : TotalOrder rules.less) wher
   listed_apart j k ks l u = grind (arith, same_is j k)
 
   -- a key that comes before all of them is not among them
-  ahead_unlisted : (k : K) (ks : List K) → Ahead rules k ks → listed rules k ks ≡ false
+  pub ahead_unlisted : (k : K) (ks : List K) → Ahead rules k ks → listed rules k ks ≡ false
   ahead_unlisted k [] a = refl
   ahead_unlisted k (j ∷ js) a = grind (arith, ahead_unlisted k js a.1)
 
@@ -43,7 +43,7 @@ module _ {R K : Type 0} (rules : Rules R K) (order : TotalOrder rules.less) wher
   ahead_other k j ks a l = grind (arith, same_is k j, ahead_unlisted k ks a)
 
   -- and so is one that comes before it
-  ahead_less : (i k : K) (ks : List K) → rules.less i k ≡ true → Ahead rules k ks → Ahead rules i ks
+  pub ahead_less : (i k : K) (ks : List K) → rules.less i k ≡ true → Ahead rules k ks → Ahead rules i ks
   ahead_less i k [] l a = tt
   ahead_less i k (j ∷ js) l a = (order.transitive i k j l a.0, ahead_less i k js l a.1)
 
@@ -71,6 +71,14 @@ module _ {R K : Type 0} (rules : Rules R K) (order : TotalOrder rules.less) wher
   listed_unlisting j k [] l = l
   listed_unlisting j k (i ∷ is) l = grind (arith, listed_unlisting j k is)
 
+  pub listed_same : (j k : K) (ks : List K) → same rules j k ≡ true → listed rules j ks ≡ listed rules k ks
+  listed_same j k ks e = rw (same_is j k e)
+
+  -- what is listed no more leaves the other keys as they were
+  pub listed_other : (j k : K) (ks : List K) → same rules j k ≡ false → listed rules k (unlisting rules j ks) ≡ listed rules k ks
+  listed_other j k [] ne = refl
+  listed_other j k (i ∷ is) ne = grind (arith, same_is i j, listed_other j k is)
+
   -- a key that is listed is not listed again
   pub listing_listed : (k : K) (ks : List K) → Ordered rules ks → listed rules k ks ≡ true → listing rules k ks ≡ ks
   listing_listed k [] o l = cc
@@ -84,6 +92,10 @@ module _ {R K : Type 0} (rules : Rules R K) (order : TotalOrder rules.less) wher
   unlisted_after : (k j : K) (js : List K) → Ordered rules (j ∷ js) → same rules j k ≡ true → listed rules k js ≡ false
   unlisted_after k j js o t = subst (λ (q : K). listed rules q js ≡ false) (same_is j k t) (ahead_unlisted j js o.0)
 
+  pub listed_none : (k : K) (ks : List K) → Ordered rules ks → listed rules k (unlisting rules k ks) ≡ false
+  listed_none k [] o = refl
+  listed_none k (i ∷ is) o = grind (arith, unlisted_after k i is o, listed_none k is o.1)
+
   -- rows made from keys
   module _ (r : K → R) (keyed : (k : K) → rules.key (r k) ≡ k) where
     pub look_made : (k : K) (ks : List K) → look rules (map r ks) k ≡ cond (listed rules k ks) (Some (r k)) None
@@ -96,7 +108,7 @@ module _ {R K : Type 0} (rules : Rules R K) (order : TotalOrder rules.less) wher
 
   -- rows made anew, where only the one with the key k differs
   module _ (r s : K → R) (keyed : (k : K) → rules.key (r k) ≡ k) (k : K) (others : (j : K) → same rules j k ≡ false → s j ≡ r j) where
-    made_others : (ks : List K) → listed rules k ks ≡ false → map s ks ≡ map r ks
+    pub made_others : (ks : List K) → listed rules k ks ≡ false → map s ks ≡ map r ks
     made_others [] u = refl
     made_others (j ∷ js) u = grind (arith, others j, made_others js)
 
@@ -117,7 +129,7 @@ module _ {R K : Type 0} (rules : Rules R K) (order : TotalOrder rules.less) wher
 
   -- totals over keys, where only that of the key k differs
   module _ (f g : K → ℕ) (k : K) (others : (j : K) → same rules j k ≡ false → g j ≡ f j) where
-    total_others : (ks : List K) → listed rules k ks ≡ false → total g ks ≡ total f ks
+    pub total_others : (ks : List K) → listed rules k ks ≡ false → total g ks ≡ total f ks
     total_others [] u = refl
     total_others (j ∷ js) u = grind (arith, others j, total_others js)
 
@@ -161,7 +173,7 @@ module _ {R K : Type 0} (rules : Rules R K) (order : TotalOrder rules.less) wher
 
   -- nets over keys, where only that of the key k differs
   module _ (f g : K → ℤ) (k : K) (others : (j : K) → same rules j k ≡ false → g j ≡ f j) where
-    net_others : (ks : List K) → listed rules k ks ≡ false → net g ks ≡ net f ks
+    pub net_others : (ks : List K) → listed rules k ks ≡ false → net g ks ≡ net f ks
     net_others [] u = refl
     net_others (j ∷ js) u = grind (arith, others j, net_others js)
 

@@ -15,6 +15,7 @@ use Rattle.ledger.specs.Keys.{listed, total, net}
 use Rattle.ledger.specs.Laws.{Settles, line_in}
 use Rattle.ledger.specs.Pages.{unpriced, period_exchange, period_measurement, period_losses, real_loss, loss_volume, settle_volumes}
 use Rattle.ledger.specs.Quantities.{period_now, known, allocated, counted, real, exchange_in, measurement_in, losses_in, read_in, real_loss_in, loss_volume_in, price_in, reconciliation_of}
+use Rattle.ledger.specs.States.{period_price}
 use Rattle.ledger.proofs.Basics.{four_read, either_way}
 use Rattle.ledger.proofs.Keyed.{net_same, net_sum}
 use Rattle.ledger.proofs.Members.{members, net_known, cond_const}
@@ -50,9 +51,13 @@ real_loss_is s h a p k =
     sums (suc (suc p)) k = absurd (omega arith)
     sums p k = refl
 
-losses_are : (s : Start) (h : History) (p : ℕ) → p < 2 → period_losses (month_at s h) p ≡ losses_in h p
+pub losses_are : (s : Start) (h : History) (p : ℕ) → p < 2 → period_losses (month_at s h) p ≡ losses_in h p
 losses_are s h (suc (suc p)) k = absurd (omega arith)
 losses_are s h p k = refl
+
+pub prices_are : (s : Start) (h : History) (p : ℕ) → p < 2 → period_price (month_at s h) p ≡ price_in h p
+prices_are s h (suc (suc p)) k = absurd (omega arith)
+prices_are s h p k = refl
 
 line_rows : (h : History) (p : ℕ) → p < 2 → (ks : List Group) (loss : ℤ) → settle_line p (map (ledger_row h) ks) loss ≡ line_in h p ks loss
 line_rows h p k [] loss = refl

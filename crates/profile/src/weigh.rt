@@ -7,7 +7,7 @@ ghost use Rattle.profile.specs.Meanings.{meant, Answers};
 ghost use Rattle.profile.specs.Weights.{weight_meant};
 
 use crate::source::ProfileSource;
-use allocation::{StandingSum, wide_weight};
+use allocation::{StandingSum, weight, wide_weight};
 use fault::{Fault, Question};
 
 // The weight of a standing sum that no bound keeps small, in Wh. A sum of 0 weighs 0, and the source is not asked.
@@ -28,6 +28,7 @@ pub fn wide_weight_by<S: ProfileSource>(
 }
 
 // The weight of a group in one direction of a quarter, in Wh: that of its standing sum, in the narrower type that a sum within its limit allows.
+// A group whose sum is 0 weighs 0, and the source is not asked. It goes by `weight`, which needs no division of 128 bits.
 pub fn weight_by<S: ProfileSource>(
     source: &S,
     question: Question,
@@ -37,5 +38,8 @@ pub fn weight_by<S: ProfileSource>(
     ensures outside { covers (S.ProfileSource.until source.now) question ≡ false → 0 < sum.kwh → result ≡ Err (FractionAbsent question) }
     ensures bound { IfOk result (λ wh. wh ≤ 100000000000) }
 {
-    Ok(wide_weight_by(source, question, sum.kwh())? as u64)
+    if sum.kwh() == 0 {
+        return Ok(0);
+    }
+    Ok(weight(source.fraction(question)?, sum))
 }

@@ -1,17 +1,42 @@
 -- Rows in the order of their keys, with one put in, taken out or exchanged. Assumes nothing.
-use Rattle.std.proofs.Common.{◌≡◌, ℕ, zero, suc, ◌+◌, ◌<◌, ◌≤◌, true, false, cond, List, [], ◌∷◌, ◌++◌, length, get_or, take, drop, set, Some, None, sym, refl, ap, ◌∙◌, ⊎_elim, add-one, arith, take-append-drop}
+use Rattle.std.proofs.Common.{◌≡◌, ℕ, zero, suc, ◌+◌, ◌-◌, ◌<◌, ◌≤◌, true, false, cond, List, [], ◌∷◌, ◌++◌, length, get_or, take, drop, set, Some, None, sym, refl, ap, ◌∙◌, ⊎_elim, add-one, arith, take-append-drop}
 use Rattle.std.specs.List.{insert, remove}
-use Rattle.std.proofs.lemmas.List.Edits.{get_or-insert_at, get_or-insert_below, get_or-remove_above, get_or-remove_below, length-insert, length-remove}
+use Rattle.std.proofs.lemmas.List.Edits.{get_or-insert_above, get_or-insert_at, get_or-insert_below, get_or-remove_above, get_or-remove_below, length-insert, length-remove}
 use Rattle.std.proofs.lemmas.List.{drop_more, get_or-set_other, get_or-set_same, length-set, set_split}
 use Rattle.std.proofs.lemmas.Option.{slice_get-get_or}
-use Rattle.std.proofs.lemmas.Bool.{cases_eq, cases_lt}
+use Rattle.std.proofs.lemmas.Bool.{cases_eq, cases_lt, cases_order}
 use Rattle.tables.specs.Rules.{Rules, TotalOrder, same, look, with_row, without, exchanged, Rising, AllBefore, AllAfter, Stands, Belongs}
 use Rattle.tables.proofs.Finding.{belongs, not_after, not_same, not_same_before, same_equal, stands}
 
 -- past the new row each row stands one place higher
+above_new : {R : Type 0} (rows : List R) (place : ℕ) (new d : R) (i : ℕ) → place < i → place ≤ length rows → get_or (insert rows place new) i d ≡ get_or rows (i - 1) d
+above_new rows place new d i lt within =
+    let back : i - 1 + 1 ≡ i = omega arith in
+    ap (λ n. get_or (insert rows place new) n d) (sym back) ∙ get_or-insert_above rows place new d (i - 1) (omega arith) within
+
 module _ {R K : Type 0} (rules : Rules R K) (order : TotalOrder rules.less) where
   abbrev Before : List R → ℕ → ℕ → R → Type 0
   Before rows i j d = rules.less (rules.key (get_or rows i d)) (rules.key (get_or rows j d)) ≡ true
+
+  pub rising_inserted : (rows : List R) (new : R) (place : ℕ) → Rising rules rows → Belongs rules rows (rules.key new) place → Rising rules (insert rows place new)
+  rising_inserted rows new place rising b i j d lt within =
+      let long = length-insert rows place new b.within in
+      let after = insert rows place new in
+      ⊎_elim {C = Before after i j d}
+      (λ (e : j ≡ place).
+      rw (e, get_or-insert_at rows place new d b.within, get_or-insert_below rows place new d i (omega arith) b.within) (b.below i d (omega arith)))
+      (⊎_elim {C = Before after i j d}
+      (λ (l : j < place).
+      rw (get_or-insert_below rows place new d i (omega arith) b.within, get_or-insert_below rows place new d j l b.within) (rising i j d lt (omega (arith, b.within))))
+      (λ (l : place < j).
+      rw (above_new rows place new d j l b.within)
+      (⊎_elim {C = rules.less (rules.key (get_or after i d)) (rules.key (get_or rows (j - 1) d)) ≡ true}
+      (λ (e : i ≡ place). rw (e, get_or-insert_at rows place new d b.within) (b.above (j - 1) d (omega arith) (omega arith)))
+      (⊎_elim {C = rules.less (rules.key (get_or after i d)) (rules.key (get_or rows (j - 1) d)) ≡ true}
+      (λ (m : i < place). rw (get_or-insert_below rows place new d i m b.within) (rising i (j - 1) d (omega arith) (omega arith)))
+      (λ (m : place < i). rw (above_new rows place new d i m b.within) (rising (i - 1) (j - 1) d (omega arith) (omega arith))))
+      (cases_order i place))))
+      (cases_order j place)
 
   pub rising_removed : (rows : List R) (place : ℕ) → Rising rules rows → place < length rows → Rising rules (remove rows place)
   rising_removed rows place rising here i j d lt within =

@@ -1,10 +1,10 @@
 -- What a total order gives of a search and of look-ups. Assumes nothing.
-use Rattle.std.proofs.Common.{◌≡◌, ℕ, zero, suc, ◌<◌, ◌≤◌, true, false, List, [], ◌∷◌, length, get_or, None, sym, refl, ⊎_elim, arith}
+use Rattle.std.proofs.Common.{◌≡◌, ℕ, zero, suc, ◌+◌, ◌<◌, ◌≤◌, true, false, List, [], ◌∷◌, length, get_or, None, sym, refl, ⊎_elim, arith}
 use Rattle.std.specs.List.{slice_get}
 use Rattle.std.specs.List.Sorted.{IsPartitionedBy}
 use Rattle.std.proofs.lemmas.List.{get_or_read}
 use Rattle.std.proofs.lemmas.Bool.{and_parts, both_ways, cases_Bool, cases_eq, cases_lt, cases_order, not-true}
-use Rattle.tables.specs.Rules.{Rules, TotalOrder, same, look, Rising, AllBefore, AllAfter, Stands, Belongs}
+use Rattle.tables.specs.Rules.{Rules, TotalOrder, same, look, Rising, AllBefore, NoneBefore, AllAfter, Stands, Belongs}
 
 module _ {R K : Type 0} (rules : Rules R K) (order : TotalOrder rules.less) where
   pub not_after : (a b : K) → rules.less a b ≡ true → rules.less b a ≡ false
@@ -34,6 +34,30 @@ module _ {R K : Type 0} (rules : Rules R K) (order : TotalOrder rules.less) wher
 
   -- one row at m decides for all rows on one side of it
   module _ (rows : List R) (k : K) (m : ℕ) (x : R) (rising : Rising rules rows) (within : m < length rows) (is : x ≡ get_or rows m x) where
+    pub before_up_to : rules.less (rules.key x) k ≡ true → AllBefore rules rows k (m + 1)
+    before_up_to h i d lt =
+        let here : x ≡ get_or rows m d = get_or_read rows m x within is d in
+        ⊎_elim {C = rules.less (rules.key (get_or rows i d)) k ≡ true}
+        (λ (e : i ≡ m). rw (e, ← here) h)
+        (⊎_elim {C = rules.less (rules.key (get_or rows i d)) k ≡ true}
+        (λ (l : i < m). order.transitive _ (rules.key x) k (rw here (rising i m d l within)) h)
+        (λ (l : m < i). absurd (omega arith)))
+        (cases_order i m)
+
+    pub none_before_from : rules.less (rules.key x) k ≡ false → NoneBefore rules rows k m
+    none_before_from h i d le lt =
+        let here : x ≡ get_or rows m d = get_or_read rows m x within is d in
+        ⊎_elim {C = rules.less (rules.key (get_or rows i d)) k ≡ false}
+        (λ (e : i ≡ m). rw (e, ← here) h)
+        (⊎_elim {C = rules.less (rules.key (get_or rows i d)) k ≡ false}
+        (λ (l : i < m). absurd (omega arith))
+        (λ (l : m < i).
+        ⊎_elim {C = rules.less (rules.key (get_or rows i d)) k ≡ false}
+        (λ (t : rules.less (rules.key (get_or rows i d)) k ≡ true). absurd (both_ways _ h (order.transitive (rules.key x) _ k (rw here (rising m i d l lt)) t)))
+        (λ (f : rules.less (rules.key (get_or rows i d)) k ≡ false). f)
+        (cases_Bool _)))
+        (cases_order i m)
+
     pub after_from : rules.less k (rules.key x) ≡ true → AllAfter rules rows k m
     after_from h i d le lt =
         let here : x ≡ get_or rows m d = get_or_read rows m x within is d in

@@ -1,5 +1,5 @@
 -- All live rows rewritten where they stand, under the keys that they have. Assumes nothing.
-use Rattle.std.proofs.Common.{◌≡◌, ℕ, zero, suc, ◌≤◌, List, [], ◌∷◌, ◌++◌, map, length, get_or, take, drop, Ok, Err, Result, refl, ap, ◌∙◌, arith, length-take-le, take-append-drop}
+use Rattle.std.proofs.Common.{◌≡◌, ℕ, zero, suc, ◌≤◌, List, [], ◌∷◌, ◌++◌, map, length, get_or, take, drop, Ok, Err, Result, refl, ap, ◌∙◌, arith, length-append, length-drop, length-take-le, take-append-drop}
 use mathlib.Core.HLevel.{is_prop→PathP}
 use mathlib.Core.Bool.{Bool-set}
 use Rattle.std.specs.Coded.{le_prop}
@@ -11,10 +11,14 @@ use Rattle.tables.specs.declared.row.Row as Row
 use Rattle.tables.specs.Rules.{Rules, Rising}
 use Rattle.tables.specs.Tables.{live, memory}
 
--- the memory after a change: rewritten by F, or, after a refusal, as it was
-abbrev pub Rewrites : {R A : Type 0} → (List R → List R) → List R → List R → Result A Fault → Type 0
-Rewrites F old new (Ok _) = new ≡ F old
-Rewrites F old new (Err _) = new ≡ old
+-- the memory after a change: its live rows rewritten by F, or, after a refusal, as they were
+abbrev pub Fronted : {R A : Type 0} → (List R → List R) → List R → List R → List R → Result A Fault → Type 0
+Fronted F front rest new (Ok _) = new ≡ F front ++ rest
+Fronted F front rest new (Err _) = new ≡ front ++ rest
+
+-- a change that is never refused
+abbrev pub done : Result ℕ Fault
+done = Ok 0
 
 module _ {R K : Type 0} (rules : Rules R K) where
   -- at each place the key that the row there had
@@ -49,9 +53,17 @@ module _ {R K : Type 0} (rules : Rules R K) where
     pub rising_front : Rising rules (take len mem) → Rising rules (take len (new ++ drop len mem))
     rising_front rising = rw front (λ i j d lt short. rw (same.keys i d, same.keys j d) (rising i j d lt (omega (arith, same.long))))
 
-  pub rewritten_keys : (F : List R → List R) → ((xs : List R) → SameKeys xs (F xs)) → (old new : List R) → {A : Type 0} (r : Result A Fault) → Rewrites F old new r → SameKeys old new
-  rewritten_keys F same old new (Ok a) is = rw is (same old)
-  rewritten_keys F same old new (Err e) is = rw is (record { long = refl; keys = λ i d. refl })
+  itself : (xs : List R) → SameKeys xs xs
+  itself xs = record { long = refl; keys = λ i d. refl }
+
+  module _ (mem new : List R) (len : ℕ) (within : len ≤ length mem) (F : List R → List R) (same : (xs : List R) → SameKeys xs (F xs)) {A : Type 0} where
+    pub fronted_rising : Rising rules (take len mem) → (r : Result A Fault) → Fronted F (take len mem) (drop len mem) new r → Rising rules (take len new)
+    fronted_rising rising (Ok a) is = rw is (rising_front mem (F (take len mem)) len within (same _) rising)
+    fronted_rising rising (Err e) is = rw is (rising_front mem (take len mem) len within (itself _) rising)
+
+    pub fronted_long : (r : Result A Fault) → Fronted F (take len mem) (drop len mem) new r → length new ≡ length mem
+    fronted_long (Ok a) is = ap length is ∙ length-append (F (take len mem)) (drop len mem) ∙ omega (arith, (same (take len mem)).long, length-take-le len mem within, length-drop len mem)
+    fronted_long (Err e) is = ap length (is ∙ take-append-drop len mem)
 
 module _ {R K : Type 0} {named : Row.Ghosts R K} where
   -- a table is its memory and its length
@@ -66,8 +78,8 @@ module _ {R K : Type 0} {named : Row.Ghosts R K} where
 
   -- the live rows rewritten by F, or, after a refusal, nothing changed
   pub ends : (F : List R → List R) (same : (xs : List R) → SameKeys named.rules xs (F xs)) (t t' : Table R K named) (new : List R)
-      → t'.rows ≡ record { ref_ptr = t.rows.ref_ptr; ghost_name = t.rows.ghost_name; now = new ++ drop t.len (memory t) } → t'.len ≡ t.len
-      → {A : Type 0} (r : Result A Fault) → Rewrites F (live t) new r → elim r as (λ _. Type 0) [ Ok _ ↦ live t' ≡ F (live t) | Err _ ↦ t' ≡ t ]
-  ends F same t t' new r l (Ok a) is = ap (λ n. take n (memory t')) l ∙ ap (λ (m : _). take t.len m.now) r ∙ front named.rules (memory t) new t.len t.within (rw is (same (live t))) ∙ is
+      → t'.rows ≡ record { ref_ptr = t.rows.ref_ptr; ghost_name = t.rows.ghost_name; now = new } → t'.len ≡ t.len
+      → {A : Type 0} (r : Result A Fault) → Fronted F (live t) (drop t.len (memory t)) new r → elim r as (λ _. Type 0) [ Ok _ ↦ live t' ≡ F (live t) | Err _ ↦ t' ≡ t ]
+  ends F same t t' new r l (Ok a) is = ap (λ n. take n (memory t')) l ∙ ap (λ (m : _). take t.len m.now) r ∙ ap (take t.len) is ∙ front named.rules (memory t) (F (live t)) t.len t.within (same (live t))
   ends F same t t' new r l (Err e) is =
-      same_table t t' (r ∙ ap (λ (m : List R). record { ref_ptr = t.rows.ref_ptr; ghost_name = t.rows.ghost_name; now = m }) (ap (λ n. n ++ drop t.len (memory t)) is ∙ take-append-drop t.len (memory t))) l
+      same_table t t' (r ∙ ap (λ (m : List R). record { ref_ptr = t.rows.ref_ptr; ghost_name = t.rows.ghost_name; now = m }) (is ∙ take-append-drop t.len (memory t))) l

@@ -1,5 +1,5 @@
 // What the quarters of a month do to all group rows of a table. Keys, order and memory stay.
-ghost use Rattle.std.specs.Prelude.{◌≡◌, map, Ok, Err};
+ghost use Rattle.std.specs.Prelude.{◌≡◌, ◌≤◌, ◌++◌, map, length, take, drop, Ok, Err};
 ghost use Rattle.fault.specs.Values.{period_number};
 ghost use Rattle.allocation.specs.Refusals.{Decided};
 ghost use Rattle.rows.specs.Groups.{cleared};
@@ -16,13 +16,64 @@ use fault::{Fault, Period};
 use profile::ProfileSource;
 use rows::{GroupRow, Weighed, Weighing, clear_quarters, divide_rows};
 
+// The rows at the front of the memory, one function for each thing that is done to them: a bug that reaches past them is refused here, by what they promise.
+
+// Clears the first rows of the memory.
+fn clear_front(rows: &mut [GroupRow], len: usize)
+    requires { len ≤ length rows.old }
+    ensures { rows.new ≡ map cleared (take len rows.old) ++ drop len rows.old }
+{
+    clear_quarters(&mut rows[..len]);
+}
+
+// Writes the weights of the first rows of the memory.
+fn write_front<S: ProfileSource>(
+    rows: &mut [GroupRow],
+    len: usize,
+    weighing: &Weighing<'_, S>,
+) -> Result<Weights, Fault>
+    requires { len ≤ length rows.old }
+    ensures answer { under S.ProfileSource.means weighing.now Counted (take len rows.old) result }
+    ensures rows { elim result [ Ok _ ↦ rows.new ≡ map (under S.ProfileSource.means weighing.now weighed) (take len rows.old) ++ drop len rows.old | Err _ ↦ rows.new ≡ take len rows.old ++ drop len rows.old ] }
+{
+    weighing.write(&mut rows[..len])
+}
+
+// Weighs the first rows of the memory, and finds the residual.
+fn weigh_front<S: ProfileSource>(
+    rows: &mut [GroupRow],
+    len: usize,
+    weighing: &Weighing<'_, S>,
+    posted: Posted,
+) -> Result<Weighed, Fault>
+    requires { len ≤ length rows.old }
+    ensures answer { under S.ProfileSource.means weighing.now Splits posted (take len rows.old) result }
+    ensures rows { elim result [ Ok _ ↦ rows.new ≡ map (under S.ProfileSource.means weighing.now weighed) (take len rows.old) ++ drop len rows.old | Err _ ↦ rows.new ≡ take len rows.old ++ drop len rows.old ] }
+{
+    weighing.weigh(&mut rows[..len], posted)
+}
+
+// Divides the first rows of the memory.
+fn divide_front(
+    rows: &mut [GroupRow],
+    len: usize,
+    split: Split,
+    period: Period,
+) -> Result<PricedVolume, Fault>
+    requires { len ≤ length rows.old }
+    ensures answer { Decided (divide_refusal split.total split.residual (period_number period) (take len rows.old)) result (λ d. d.wh ≡ priced split.total split.residual (take len rows.old)) }
+    ensures rows { elim result [ Ok _ ↦ rows.new ≡ divided_rows split.total split.residual (period_number period) 0 (take len rows.old) ++ drop len rows.old | Err _ ↦ rows.new ≡ take len rows.old ++ drop len rows.old ] }
+{
+    divide_rows(&mut rows[..len], split, period)
+}
+
 impl<'a> Table<'a, GroupRow> {
     // Takes the quarter volumes of every group out.
     pub fn clear_quarters(&mut self)
         ensures rows { live self.new ≡ map cleared (live self.old) }
         ensures stays { Stays group_rules self.old self.new }
     {
-        clear_quarters(&mut self.rows[..self.len]);
+        clear_front(self.rows, self.len);
     }
 
     // Writes the weights of every group, and answers T and V. A refusal changes nothing.
@@ -34,7 +85,7 @@ impl<'a> Table<'a, GroupRow> {
         ensures rows { elim result [ Ok _ ↦ live self.new ≡ map (under S.ProfileSource.means weighing.now weighed) (live self.old) | Err _ ↦ self.new ≡ self.old ] }
         ensures stays { Stays group_rules self.old self.new }
     {
-        weighing.write(&mut self.rows[..self.len])
+        write_front(self.rows, self.len, weighing)
     }
 
     // Writes the weights of every group, and answers V, T and R for the nets that were posted. A refusal changes nothing.
@@ -47,7 +98,7 @@ impl<'a> Table<'a, GroupRow> {
         ensures rows { elim result [ Ok _ ↦ live self.new ≡ map (under S.ProfileSource.means weighing.now weighed) (live self.old) | Err _ ↦ self.new ≡ self.old ] }
         ensures stays { Stays group_rules self.old self.new }
     {
-        weighing.weigh(&mut self.rows[..self.len], posted)
+        weigh_front(self.rows, self.len, weighing, posted)
     }
 
     // Shares the residual of a quarter out along the groups, and answers D. A refusal changes nothing.
@@ -56,6 +107,6 @@ impl<'a> Table<'a, GroupRow> {
         ensures rows { elim result [ Ok _ ↦ live self.new ≡ divided_rows split.total split.residual (period_number period) 0 (live self.old) | Err _ ↦ self.new ≡ self.old ] }
         ensures stays { Stays group_rules self.old self.new }
     {
-        divide_rows(&mut self.rows[..self.len], split, period)
+        divide_front(self.rows, self.len, split, period)
     }
 }

@@ -5,11 +5,22 @@ ghost use Rattle.tables.specs.Rules.{Rising, Found, AllBefore, NoneBefore, Place
 use crate::row::Row;
 
 // The place of the first row whose key is not before `wanted`; the number of rows if there is none.
+// A loop by hand: by the library's `partition_point` look-ups in tables of up to a few hundred rows took up to twice the time.
 fn first_not_before<R: Row>(rows: &[R], wanted: &R::Key) -> usize
     ensures within { result ≤ length rows.now }
     ensures split { Rising R.rules rows.now → AllBefore R.rules rows.now wanted.now result × NoneBefore R.rules rows.now wanted.now result }
 {
-    rows.partition_point(|row| R::before(&row.key(), wanted))
+    let mut low = 0;
+    let mut high = rows.len();
+    while low < high {
+        let middle = low + (high - low) / 2;
+        if R::before(&rows[middle].key(), wanted) {
+            low = middle + 1;
+        } else {
+            high = middle;
+        }
+    }
+    low
 }
 
 // The place of the row with the key, or else the place where such a row would go.

@@ -8,6 +8,7 @@ use Rattle.tables_demo.specs.declared.kinds.Group.{Group}
 use Rattle.tables_demo.specs.declared.kinds.GroupKey.{GroupKey}
 use Rattle.tables_demo.specs.declared.kinds.Label.{Label}
 use Rattle.tables_demo.specs.declared.kinds.Meter.{Meter}
+use Rattle.tables_demo.specs.declared.noted.Noted.{Noted}
 
 abbrev pub meter_rules : Rules Meter ℕ
 meter_rules = record {
@@ -41,4 +42,14 @@ label_rules = record {
   present = λ _. OutOfRange (record { 0 = 1 });
   absent = λ _. OutOfRange (record { 0 = 2 });
   full = λ _. NoPlace Groups;
+}
+
+abbrev pub noted_rules : {T : Type 0} → Rules (Noted T) ℕ
+noted_rules = record {
+  key = λ row. row.code;
+  less = nat_lt;
+  most = 1000;
+  present = λ k. CodePresent (record { 0 = k });
+  absent = λ k. NotEnrolled (record { 0 = k });
+  full = λ _. NoPlace Connections;
 }

@@ -2,6 +2,7 @@
 #![tactic(auto)]
 
 mod kinds;
+mod noted;
 mod uses;
 
 use fault::Fault;

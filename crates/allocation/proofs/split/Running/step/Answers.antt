@@ -1,14 +1,14 @@
 use Rattle.std.proofs.Common.{ℤ, ◌+ℤ◌, refl, ap, ◌∙◌, w64, SFits, rules}
 use Rattle.std.proofs.lemmas.Int.{to_z-of_z}
 use Rattle.allocation.specs.Correction.{profiled}
-use Rattle.allocation.proofs.Shares.{given_within, given_grows, near}
+use Rattle.allocation.proofs.Shares.{given_limited, given_grows, near}
 use Rattle.allocation.proofs.split.Running.step.Goals as goal
 
 pub gathered-self-requires : goal.gathered-self-requires
-gathered-self-requires c = search (rules, given_within c.args.self.now)
+gathered-self-requires c = search (rules, given_limited c.args.self.now)
 
 pub gathered-self-requires-2 : goal.gathered-self-requires-2
-gathered-self-requires-2 c = search (rules, given_within c.args.self.now)
+gathered-self-requires-2 c = search (rules, given_limited c.args.self.now)
 
 pub invariant_of-self : goal.invariant_of-self
 invariant_of-self c =

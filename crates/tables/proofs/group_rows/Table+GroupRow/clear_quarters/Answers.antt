@@ -1,11 +1,15 @@
-use Rattle.std.proofs.Common.{refl, subst, sym}
+use Rattle.std.proofs.Common.{◌≤◌, map, refl, subst, sym}
 use Rattle.rows.specs.Groups.{cleared}
 use Rattle.tables.specs.BookRows.{group_rules}
-use Rattle.tables.specs.Tables.{live}
-use Rattle.tables.proofs.Fronts.{SameKeys, map_keys, rising_front}
+use Rattle.tables.proofs.Fronts.{done, fronted_long, fronted_rising, map_keys}
 use Rattle.tables.proofs.group_rows.Table+GroupRow.clear_quarters.Goals as goal
+
+pub invariant_of-self-clause-within : goal.invariant_of-self-clause-within
+invariant_of-self-clause-within c =
+    let t = c.args.self.now in
+    subst (λ n. t.len ≤ n) (sym (fronted_long group_rules t.rows.now _ t.len t.within (map cleared) (map_keys group_rules cleared (λ x. refl)) done c.clear_front.ensures)) t.within
 
 pub invariant_of-self-clause-rising : goal.invariant_of-self-clause-rising
 invariant_of-self-clause-rising c =
     let t = c.args.self.now in
-    rising_front group_rules t.rows.now _ t.len t.within (subst (SameKeys group_rules (live t)) (sym c.clear_quarters.ensures) (map_keys group_rules cleared (λ x. refl) (live t))) t.rising
+    fronted_rising group_rules t.rows.now _ t.len t.within (map cleared) (map_keys group_rules cleared (λ x. refl)) t.rising done c.clear_front.ensures
