@@ -1,4 +1,4 @@
--- The rules of the three kinds of row. Assumes nothing.
+-- The rules of each kind of row. Assumes nothing.
 use Rattle.std.specs.Prelude.{ℕ, Bool, cond, List, ◌==◌, nat_lt}
 use Rattle.fault.specs.declared.cause.Fault.TheVariants.{CodePresent, NotEnrolled, NoPlace, OutOfRange, ForeignTables}
 use Rattle.fault.specs.declared.cause.TableKind.TheVariants.{Connections, Groups}
