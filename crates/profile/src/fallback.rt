@@ -39,7 +39,9 @@ impl<F: ProfileSource, S: ProfileSource> ProfileSource for Fallback<F, S> {
         if question.quarter.0 >= self.quarters().count() {
             return Err(Fault::FractionAbsent(question));
         }
-        let first = self.first.fraction(question);
-        first.or_else(|_| self.second.fraction(question))
+        match self.first.fraction(question) {
+            Ok(fraction) => Ok(fraction),
+            Err(_) => self.second.fraction(question),
+        }
     }
 }

@@ -38,7 +38,8 @@ impl Quarters {
     pub fn covers(self, question: Question) -> bool
         ensures { result ≡ covers self.count question }
     {
-        (1..=LAST_CLASS).contains(&question.class)
+        question.class >= 1
+            && question.class <= LAST_CLASS
             && question.direction < DIRECTIONS
             && question.quarter.0 < self.count
     }

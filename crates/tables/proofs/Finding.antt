@@ -1,9 +1,8 @@
 -- What a total order gives of a search and of look-ups. Assumes nothing.
 use Rattle.std.proofs.Common.{◌≡◌, ℕ, zero, suc, ◌+◌, ◌<◌, ◌≤◌, true, false, List, [], ◌∷◌, length, get_or, None, sym, refl, ⊎_elim, arith}
 use Rattle.std.specs.List.{slice_get}
-use Rattle.std.specs.List.Sorted.{IsPartitionedBy}
 use Rattle.std.proofs.lemmas.List.{get_or_read}
-use Rattle.std.proofs.lemmas.Bool.{and_parts, both_ways, cases_Bool, cases_eq, cases_lt, cases_order, not-true}
+use Rattle.std.proofs.lemmas.Bool.{and_parts, both_ways, cases_Bool, cases_lt, cases_order, not-true}
 use Rattle.tables.specs.Rules.{Rules, TotalOrder, same, look, Rising, AllBefore, NoneBefore, AllAfter, Stands, Belongs}
 
 module _ {R K : Type 0} (rules : Rules R K) (order : TotalOrder rules.less) where
@@ -96,11 +95,3 @@ module _ {R K : Type 0} (rules : Rules R K) (order : TotalOrder rules.less) wher
     keyed = keyed;
     looked = look_at rows k place within (λ i d l. not_same_before _ k (below i d l)) (λ d. same_equal _ k (keyed d));
   }
-
-  -- along rising keys no row that comes before k stands behind one that does not
-  pub parted : (rows : List R) (k : K) → Rising rules rows → IsPartitionedBy (λ row. rules.less (rules.key row) k) rows
-  parted rows k rising i j d le within here =
-      ⊎_elim {C = rules.less (rules.key (get_or rows i d)) k ≡ true}
-      (λ (e : i ≡ j). rw e here)
-      (λ (ne : i ≡ j → ⊥). order.transitive _ _ k (rising i j d (omega arith) within) here)
-      (cases_eq i j)

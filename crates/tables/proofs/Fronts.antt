@@ -1,17 +1,14 @@
 -- All live rows rewritten where they stand, under the keys that they have. Assumes nothing.
-use Rattle.std.proofs.Common.{◌≡◌, ℕ, zero, suc, ◌≤◌, List, [], ◌∷◌, ◌++◌, map, length, get_or, take, drop, Ok, Err, Result, refl, ap, ◌∙◌, arith, length-append, length-drop, length-take-le, take-append-drop}
-use mathlib.Core.HLevel.{is_prop→PathP}
-use mathlib.Core.Bool.{Bool-set}
-use Rattle.std.specs.Coded.{le_prop}
-use Rattle.std.proofs.lemmas.List.{length-map, take_at}
+use Rattle.std.proofs.Common.{◌≡◌, ℕ, zero, suc, List, [], ◌∷◌, ◌++◌, map, length, get_or, take, drop, Ok, Err, Result, sym, refl, ap, ◌∙◌, subst, arith, length-append, length-drop, take-append-drop, length-take}
+use Rattle.std.proofs.lemmas.List.{drop_at, length-map}
 use Rattle.fault.specs.declared.cause.Fault.{Fault}
 use Rattle.allocation.specs.Along.{along}
 use Rattle.tables.specs.declared.keyed.Table.{Table}
-use Rattle.tables.specs.declared.row.Row as Row
-use Rattle.tables.specs.Rules.{Rules, Rising}
-use Rattle.tables.specs.Tables.{live, memory}
+use Rattle.tables.specs.Rules.{Rules}
+use Rattle.tables.specs.Tables.{Keeps, Sound, Stays, live, memory}
+use Rattle.tables.proofs.Outcomes.{front_live}
 
--- the memory after a change: its live rows rewritten by F, or, after a refusal, as they were
+-- the memory after a change: its first rows rewritten by F, or, after a refusal, as they were
 abbrev pub Fronted : {R A : Type 0} → (List R → List R) → List R → List R → List R → Result A Fault → Type 0
 Fronted F front rest new (Ok _) = new ≡ F front ++ rest
 Fronted F front rest new (Err _) = new ≡ front ++ rest
@@ -20,11 +17,47 @@ Fronted F front rest new (Err _) = new ≡ front ++ rest
 abbrev pub done : Result ℕ Fault
 done = Ok 0
 
+take_front : {R : Type 0} (n : ℕ) (mem rows : List R) → length rows ≡ length (take n mem) → take n (rows ++ drop (length (take n mem)) mem) ≡ rows
+take_front zero mem [] long = refl
+take_front zero mem (row ∷ rows) long = absurd (omega arith)
+take_front (suc n) [] [] long = refl
+take_front (suc n) [] (row ∷ rows) long = absurd (omega arith)
+take_front (suc n) (x ∷ mem) [] long = absurd (omega arith)
+take_front (suc n) (x ∷ mem) (row ∷ rows) long = ap (λ l. row ∷ l) (take_front n mem rows (omega arith))
+
+-- a table is its memory and its length
+same_table : {R K : Type 0} (t t' : Table R K) → t'.rows ≡ t.rows → t'.len ≡ t.len → t' ≡ t
+same_table t t' r l = λ i. record { rows = r i; len = l i }
+
+-- memory that was written anew at the front holds those rows, and past them what it held
+record Wrote {R K : Type 0} (t t' : Table R K) (rows : List R) : Type 0 where
+  live_rows : live t' ≡ rows
+  kept : Keeps t t'
+
+wrote_front : {R K : Type 0} (t t' : Table R K) (rows : List R) → length rows ≡ length (live t) → memory t' ≡ rows ++ drop (length (live t)) (memory t) → t'.len ≡ t.len → Wrote t t' rows
+wrote_front t t' rows long is counted =
+    let n = length (live t) in
+    let front : live t' ≡ rows = rw (counted, is) (take_front t.len (memory t) rows long) in
+    let count : length (live t') ≡ n = ap length front ∙ long in
+    record {
+      live_rows = front;
+      kept = record {
+        size = ap length is ∙ length-append rows (drop n (memory t)) ∙ omega (arith, long, length-drop n (memory t), length-take t.len (memory t));
+        beyond = rw (count, is) (drop_at rows (drop n (memory t)) n long);
+      };
+    }
+
 module _ {R K : Type 0} (rules : Rules R K) where
   -- at each place the key that the row there had
   pub record SameKeys (xs ys : List R) : Type 0 where
     pub long : length ys ≡ length xs
     pub keys : (i : ℕ) (d : R) → rules.key (get_or ys i d) ≡ rules.key (get_or xs i d)
+
+  sound_same : (t t' : Table R K) (rows : List R) → live t' ≡ rows → SameKeys (live t) rows → Sound rules t → Sound rules t'
+  sound_same t t' rows is same sound = record {
+    rising = rw is (λ i j d lt within. rw (same.keys i d, same.keys j d) (sound.rising i j d lt (omega (arith, same.long))));
+    within = rw is (omega (arith, same.long, sound.within));
+  }
 
   pub map_keys : (f : R → R) → ((x : R) → rules.key (f x) ≡ rules.key x) → (xs : List R) → SameKeys xs (map f xs)
   map_keys f same xs = record { long = length-map xs f; keys = at xs }
@@ -46,40 +79,24 @@ module _ {R K : Type 0} (rules : Rules R K) where
       at s (x ∷ xs) zero d = same s x
       at s (x ∷ xs) (suc i) d = at (next s x) xs i d
 
-  module _ (mem new : List R) (len : ℕ) (within : len ≤ length mem) (same : SameKeys (take len mem) new) where
-    pub front : take len (new ++ drop len mem) ≡ new
-    front = take_at new (drop len mem) len (same.long ∙ length-take-le len mem within)
+  -- the first n rows of the memory, which are the live ones, rewritten by F
+  module _ (F : List R → List R) (same : (xs : List R) → SameKeys xs (F xs)) (t t' : Table R K) (n : ℕ) (n-is : n ≡ length (live t)) (new : List R)
+      (r : t'.rows ≡ record { ref_ptr = t.rows.ref_ptr; ghost_name = t.rows.ghost_name; now = new }) (l : t'.len ≡ t.len) where
+    rewrote : new ≡ F (take n (memory t)) ++ drop n (memory t) → Wrote t t' (F (live t))
+    rewrote is =
+        let front = front_live t n n-is in
+        wrote_front t t' (F (live t)) (same (live t)).long (ap (λ (m : _). m.now) r ∙ is ∙ ap (λ l. F l ++ drop n (memory t)) front ∙ ap (λ m. F (live t) ++ drop m (memory t)) n-is) l
 
-    pub rising_front : Rising rules (take len mem) → Rising rules (take len (new ++ drop len mem))
-    rising_front rising = rw front (λ i j d lt short. rw (same.keys i d, same.keys j d) (rising i j d lt (omega (arith, same.long))))
+    module _ {A : Type 0} where
+      -- or, after a refusal, nothing changed
+      pub ends : (result : Result A Fault) → Fronted F (take n (memory t)) (drop n (memory t)) new result → elim result as (λ _. Type 0) [ Ok _ ↦ live t' ≡ F (live t) | Err _ ↦ t' ≡ t ]
+      ends (Ok a) is = (rewrote is).live_rows
+      ends (Err e) is = same_table t t' (r ∙ ap (λ (m : List R). record { ref_ptr = t.rows.ref_ptr; ghost_name = t.rows.ghost_name; now = m }) (is ∙ take-append-drop n (memory t))) l
 
-  itself : (xs : List R) → SameKeys xs xs
-  itself xs = record { long = refl; keys = λ i d. refl }
-
-  module _ (mem new : List R) (len : ℕ) (within : len ≤ length mem) (F : List R → List R) (same : (xs : List R) → SameKeys xs (F xs)) {A : Type 0} where
-    pub fronted_rising : Rising rules (take len mem) → (r : Result A Fault) → Fronted F (take len mem) (drop len mem) new r → Rising rules (take len new)
-    fronted_rising rising (Ok a) is = rw is (rising_front mem (F (take len mem)) len within (same _) rising)
-    fronted_rising rising (Err e) is = rw is (rising_front mem (take len mem) len within (itself _) rising)
-
-    pub fronted_long : (r : Result A Fault) → Fronted F (take len mem) (drop len mem) new r → length new ≡ length mem
-    fronted_long (Ok a) is = ap length is ∙ length-append (F (take len mem)) (drop len mem) ∙ omega (arith, (same (take len mem)).long, length-take-le len mem within, length-drop len mem)
-    fronted_long (Err e) is = ap length (is ∙ take-append-drop len mem)
-
-module _ {R K : Type 0} {named : Row.Ghosts R K} where
-  -- a table is its memory and its length
-  same_table : (t t' : Table R K named) → t'.rows ≡ t.rows → t'.len ≡ t.len → t' ≡ t
-  same_table t t' r l = λ i. record {
-    rows = r i;
-    len = l i;
-    within = is_prop→PathP (λ j. l j ≤ length (r j).now) (λ j. le_prop) t'.within t.within i;
-    most = is_prop→PathP (λ j. l j ≤ named.rules.most) (λ j. le_prop) t'.most t.most i;
-    rising = is_prop→PathP (λ j. Rising named.rules (take (l j) (r j).now)) (λ j. hlevel Bool-set) t'.rising t.rising i;
-  }
-
-  -- the live rows rewritten by F, or, after a refusal, nothing changed
-  pub ends : (F : List R → List R) (same : (xs : List R) → SameKeys named.rules xs (F xs)) (t t' : Table R K named) (new : List R)
-      → t'.rows ≡ record { ref_ptr = t.rows.ref_ptr; ghost_name = t.rows.ghost_name; now = new } → t'.len ≡ t.len
-      → {A : Type 0} (r : Result A Fault) → Fronted F (live t) (drop t.len (memory t)) new r → elim r as (λ _. Type 0) [ Ok _ ↦ live t' ≡ F (live t) | Err _ ↦ t' ≡ t ]
-  ends F same t t' new r l (Ok a) is = ap (λ n. take n (memory t')) l ∙ ap (λ (m : _). take t.len m.now) r ∙ ap (take t.len) is ∙ front named.rules (memory t) (F (live t)) t.len t.within (same (live t))
-  ends F same t t' new r l (Err e) is =
-      same_table t t' (r ∙ ap (λ (m : List R). record { ref_ptr = t.rows.ref_ptr; ghost_name = t.rows.ghost_name; now = m }) (is ∙ take-append-drop t.len (memory t))) l
+      pub stays : (result : Result A Fault) → Fronted F (take n (memory t)) (drop n (memory t)) new result → Stays rules t t'
+      stays (Ok a) is = record {
+        kept = (rewrote is).kept;
+        sound = sound_same t t' (F (live t)) (rewrote is).live_rows (same (live t));
+        lent = ap (λ (m : _). m.ghost_name) r;
+      }
+      stays (Err e) is = subst (Stays rules t) (sym (ends (Err e) is)) (record { kept = record { size = refl; beyond = refl }; sound = λ s. s; lent = refl })

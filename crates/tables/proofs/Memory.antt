@@ -1,8 +1,18 @@
--- Rows moved by one place in memory. Assumes nothing.
-use Rattle.std.proofs.Common.{◌≡◌, ℕ, suc, ◌+◌, ◌-◌, ◌<◌, ◌≤◌, List, [], ◌∷◌, ◌++◌, length, take, drop, set, sym, ap, ◌∙◌, add-one, arith}
+-- Live rows at the front of memory, and rows moved by one place. Assumes nothing.
+use Rattle.std.proofs.Common.{◌≡◌, ℕ, zero, suc, ◌+◌, ◌-◌, ◌<◌, ◌≤◌, min, List, [], ◌∷◌, ◌++◌, length, take, drop, set, sym, refl, ap, ◌∙◌, add-one, arith, length-take}
 use lib.Seq.{paste}
 use Rattle.std.specs.List.{insert, remove}
 use Rattle.std.proofs.lemmas.List.{append_assoc, drop_all, drop-take, length-append, length-take-le, set-append_left, set_split, take-take}
+
+-- the front of memory that is live, by its own length
+pub take_live : {R : Type 0} (n : ℕ) (mem : List R) → take (length (take n mem)) mem ≡ take n mem
+take_live zero mem = refl
+take_live (suc n) [] = refl
+take_live (suc n) (row ∷ mem) = ap (λ rows. row ∷ rows) (take_live n mem)
+
+-- as many rows as the count says and the memory has
+pub take_clamped : {R : Type 0} (n : ℕ) (mem : List R) → take (min n (length mem)) mem ≡ take n mem
+take_clamped n mem = ap (λ m. take m mem) (sym (length-take n mem)) ∙ take_live n mem
 
 module _ {R : Type 0} (mem : List R) (len place : ℕ) where
   pub opened : (row : R) → place ≤ len → len < length mem → set (paste mem (place + 1) (drop place mem) (len - place)) place row ≡ insert (take len mem) place row ++ drop (len + 1) mem

@@ -73,7 +73,8 @@ impl<'a> Table<'a, GroupRow> {
         ensures rows { live self.new ≡ map cleared (live self.old) }
         ensures stays { Stays group_rules self.old self.new }
     {
-        clear_front(self.rows, self.len);
+        let len = self.len();
+        clear_front(self.rows, len);
     }
 
     // Writes the weights of every group, and answers T and V. A refusal changes nothing.
@@ -85,7 +86,8 @@ impl<'a> Table<'a, GroupRow> {
         ensures rows { elim result [ Ok _ ↦ live self.new ≡ map (under S.ProfileSource.means weighing.now weighed) (live self.old) | Err _ ↦ self.new ≡ self.old ] }
         ensures stays { Stays group_rules self.old self.new }
     {
-        write_front(self.rows, self.len, weighing)
+        let len = self.len();
+        write_front(self.rows, len, weighing)
     }
 
     // Writes the weights of every group, and answers V, T and R for the nets that were posted. A refusal changes nothing.
@@ -98,7 +100,8 @@ impl<'a> Table<'a, GroupRow> {
         ensures rows { elim result [ Ok _ ↦ live self.new ≡ map (under S.ProfileSource.means weighing.now weighed) (live self.old) | Err _ ↦ self.new ≡ self.old ] }
         ensures stays { Stays group_rules self.old self.new }
     {
-        weigh_front(self.rows, self.len, weighing, posted)
+        let len = self.len();
+        weigh_front(self.rows, len, weighing, posted)
     }
 
     // Shares the residual of a quarter out along the groups, and answers D. A refusal changes nothing.
@@ -107,6 +110,7 @@ impl<'a> Table<'a, GroupRow> {
         ensures rows { elim result [ Ok _ ↦ live self.new ≡ divided_rows split.total split.residual (period_number period) 0 (live self.old) | Err _ ↦ self.new ≡ self.old ] }
         ensures stays { Stays group_rules self.old self.new }
     {
-        divide_front(self.rows, self.len, split, period)
+        let len = self.len();
+        divide_front(self.rows, len, split, period)
     }
 }

@@ -1,6 +1,7 @@
-// A row over any content, and a type of this program's own that holds a table of such rows: it repeats the bound of the table, with the key that the rows have.
+// A row over any content, a type of this program's own that holds a table of such rows, and a function that spends one: what a caller may do with a table, since its type has no ghost field.
+ghost use Rattle.std.specs.Prelude.{◌≡◌, IfOk, None, length};
 ghost use Rattle.tables_demo.specs.Rows.{noted_rules};
-ghost use Rattle.tables.specs.Tables.{Inserts};
+ghost use Rattle.tables.specs.Tables.{Inserts, Sound, insert_refusal, memory};
 ghost use Rattle.std.proofs.Common.{rules};
 
 use fault::{Code, Fault, TableKind};
@@ -45,15 +46,20 @@ impl<T: Copy> Row for Noted<T> {
 }
 
 #[derive(Drop)]
-pub struct Notebook<'a, T: Copy>
-where
-    Noted<T>: Row<Key = u64>,
-{
+pub struct Notebook<'a, T: Copy> {
     pub table: Table<'a, Noted<T>>,
 }
 
 pub fn put<T: Copy>(book: &mut Notebook<'_, T>, row: Noted<T>) -> Result<usize, Fault>
-    ensures { Inserts noted_rules book.old.table row result book.new.table }
+    ensures { Sound noted_rules book.old.table → Inserts noted_rules book.old.table row result book.new.table }
 {
     book.table.insert(row)
+}
+
+// Takes the table and puts the row in. The memory is the lender's again, as long as it was.
+pub fn spend<T: Copy>(mut spent: Table<'_, Noted<T>>, row: Noted<T>) -> Result<usize, Fault>
+    ensures accepted { Sound noted_rules spent.entry → IfOk result (λ _. insert_refusal noted_rules spent.entry row.code ≡ None) }
+    ensures size { length spent.exit.0.now ≡ length (memory spent.entry) }
+{
+    spent.insert(row)
 }

@@ -14,8 +14,8 @@ pub(crate) fn exchange_meter(
     gone: u64,
     new: Meter,
 ) -> Result<Meter, Fault>
-    ensures sound { Sound meter_rules table.new }
-    ensures found { IfOk result (λ old. (row_with meter_rules table.old gone ≡ Some old) × (row_with meter_rules table.new new.code ≡ Some new)) }
+    ensures sound { Sound meter_rules table.old → Sound meter_rules table.new }
+    ensures found { Sound meter_rules table.old → IfOk result (λ old. (row_with meter_rules table.old gone ≡ Some old) × (row_with meter_rules table.new new.code ≡ Some new)) }
 {
     let old = table.remove(&gone)?;
     table.insert(new)?;
@@ -24,9 +24,9 @@ pub(crate) fn exchange_meter(
 
 // A group's row is overwritten: it is found by its triple, and every other triple is found as before.
 pub(crate) fn set_group(table: &mut Table<'_, Group>, row: Group) -> Result<(), Fault>
-    ensures sound { Sound group_rules table.new }
-    ensures found { OnOk result (row_with group_rules table.new row.key ≡ Some row) }
-    ensures others { OnOk result ((other : GroupKey) → (other ≢ row.key) → row_with group_rules table.new other ≡ row_with group_rules table.old other) }
+    ensures sound { Sound group_rules table.old → Sound group_rules table.new }
+    ensures found { Sound group_rules table.old → OnOk result (row_with group_rules table.new row.key ≡ Some row) }
+    ensures others { Sound group_rules table.old → OnOk result ((other : GroupKey) → (other ≢ row.key) → row_with group_rules table.new other ≡ row_with group_rules table.old other) }
 {
     table.replace(row)?;
     Ok(())
@@ -34,9 +34,9 @@ pub(crate) fn set_group(table: &mut Table<'_, Group>, row: Group) -> Result<(), 
 
 // A label is taken out: it is found no more, and every other label is found as before.
 pub(crate) fn drop_label(table: &mut Table<'_, Label>, text: &[u8; 16]) -> Result<(), Fault>
-    ensures sound { Sound label_rules table.new }
-    ensures gone { OnOk result (row_with label_rules table.new text.now ≡ None) }
-    ensures others { OnOk result ((other : List ℕ) → (other ≢ text.now) → row_with label_rules table.new other ≡ row_with label_rules table.old other) }
+    ensures sound { Sound label_rules table.old → Sound label_rules table.new }
+    ensures gone { Sound label_rules table.old → OnOk result (row_with label_rules table.new text.now ≡ None) }
+    ensures others { Sound label_rules table.old → OnOk result ((other : List ℕ) → (other ≢ text.now) → row_with label_rules table.new other ≡ row_with label_rules table.old other) }
 {
     table.remove(text)?;
     Ok(())

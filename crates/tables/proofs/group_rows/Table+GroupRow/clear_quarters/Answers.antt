@@ -1,15 +1,11 @@
-use Rattle.std.proofs.Common.{◌≤◌, map, refl, subst, sym}
+use Rattle.std.proofs.Common.{map, refl}
 use Rattle.rows.specs.Groups.{cleared}
 use Rattle.tables.specs.BookRows.{group_rules}
-use Rattle.tables.proofs.Fronts.{done, fronted_long, fronted_rising, map_keys}
+use Rattle.tables.proofs.Fronts.{done, ends, map_keys, stays}
 use Rattle.tables.proofs.group_rows.Table+GroupRow.clear_quarters.Goals as goal
 
-pub invariant_of-self-clause-within : goal.invariant_of-self-clause-within
-invariant_of-self-clause-within c =
-    let t = c.args.self.now in
-    subst (λ n. t.len ≤ n) (sym (fronted_long group_rules t.rows.now _ t.len t.within (map cleared) (map_keys group_rules cleared (λ x. refl)) done c.clear_front.ensures)) t.within
+pub returns-clause-rows : goal.returns-clause-rows
+returns-clause-rows c = ends group_rules (map cleared) (map_keys group_rules cleared (λ x. refl)) c.args.self.now _ _ c.len-len.ensures.rows _ refl refl done c.clear_front.ensures
 
-pub invariant_of-self-clause-rising : goal.invariant_of-self-clause-rising
-invariant_of-self-clause-rising c =
-    let t = c.args.self.now in
-    fronted_rising group_rules t.rows.now _ t.len t.within (map cleared) (map_keys group_rules cleared (λ x. refl)) t.rising done c.clear_front.ensures
+pub returns-clause-stays : goal.returns-clause-stays
+returns-clause-stays c = stays group_rules (map cleared) (map_keys group_rules cleared (λ x. refl)) c.args.self.now _ _ c.len-len.ensures.rows _ refl refl done c.clear_front.ensures

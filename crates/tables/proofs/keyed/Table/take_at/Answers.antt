@@ -1,16 +1,12 @@
-use Rattle.std.proofs.Common.{arith, length-take-le}
-use Rattle.tables.proofs.Changes.{rising_removed}
-use Rattle.tables.proofs.Outcomes.{front_removed, removed_outcome}
+use Rattle.tables.proofs.Outcomes.{front_removed, removed_outcome, sound_removed}
 use Rattle.tables.proofs.keyed.Table.take_at.Goals as goal
 
-pub invariant_of-self-2-clause-rising : goal.invariant_of-self-2-clause-rising
-invariant_of-self-2-clause-rising g c =
+pub returns-clause-sound : goal.returns-clause-sound
+returns-clause-sound g c sound =
     let t = c.args.self.now in
-    let long = length-take-le t.len t.rows.now t.within in
-    rw (front_removed t.rows.now _ t.len c.args.place (omega (arith, c.requires)) t.within c.close_at.ensures.after) (rising_removed g.R.Row.rules g.met.R.Row.ordered _ c.args.place t.rising c.requires)
+    sound_removed g.R.Row.rules g.met.R.Row.ordered t _ c.args.place sound (front_removed t _ _ c.args.place c.len-len.ensures.rows c.requires c.close_at.ensures.after) c.requires
 
 pub returns-clause-removed : goal.returns-clause-removed
-returns-clause-removed g c =
+returns-clause-removed g c sound =
     let t = c.args.self.now in
-    let long = length-take-le t.len t.rows.now t.within in
-    removed_outcome g.met.R.Row.ordered t _ c.args.place _ (front_removed t.rows.now _ t.len c.args.place (omega (arith, c.requires)) t.within c.close_at.ensures.after) c.close_at.ensures.row
+    removed_outcome g.R.Row.rules g.met.R.Row.ordered t _ c.args.place sound _ (front_removed t _ _ c.args.place c.len-len.ensures.rows c.requires c.close_at.ensures.after) c.close_at.ensures.row
