@@ -1,7 +1,8 @@
 // A row over any content, a type of this program's own that holds a table of such rows, and a function that spends one: what a caller may do with a table, since its type has no ghost field.
-ghost use Rattle.std.specs.Prelude.{◌≡◌, IfOk, None, length};
+ghost use Rattle.std.specs.Prelude.{◌≡◌, OnErr, length};
 ghost use Rattle.tables_demo.specs.Rows.{noted_rules};
-ghost use Rattle.tables.specs.Tables.{Inserts, Sound, insert_refusal, memory};
+ghost use Rattle.tables_demo.specs.Spending.{Answers};
+ghost use Rattle.tables.specs.Tables.{Inserts, Sound, Stays, memory};
 ghost use Rattle.std.proofs.Common.{rules};
 
 use fault::{Code, Fault, TableKind};
@@ -51,14 +52,17 @@ pub struct Notebook<'a, T: Copy> {
 }
 
 pub fn put<T: Copy>(book: &mut Notebook<'_, T>, row: Noted<T>) -> Result<usize, Fault>
-    ensures { Sound noted_rules book.old.table → Inserts noted_rules book.old.table row result book.new.table }
+    ensures refused { OnErr result (book.new ≡ book.old) }
+    ensures stays { Stays noted_rules book.old.table book.new.table }
+    ensures inserted { Sound noted_rules book.old.table → Inserts noted_rules book.old.table row result book.new.table }
 {
     book.table.insert(row)
 }
 
-// Takes the table and puts the row in. The memory is the lender's again, as long as it was.
+// Takes the table, puts the row in, and lets the table go. Of the memory, which is the lender's again, no more than its length can be said where a table that was taken is changed.
+#[tactic(auto, using(crate::proofs::Spent::answers))]
 pub fn spend<T: Copy>(mut spent: Table<'_, Noted<T>>, row: Noted<T>) -> Result<usize, Fault>
-    ensures accepted { Sound noted_rules spent.entry → IfOk result (λ _. insert_refusal noted_rules spent.entry row.code ≡ None) }
+    ensures answer { Sound noted_rules spent.entry → Answers noted_rules spent.entry row result }
     ensures size { length spent.exit.0.now ≡ length (memory spent.entry) }
 {
     spent.insert(row)
